@@ -53,8 +53,8 @@ from auction.conductor.closing import (
     keep,
     last_closed,
 )
-from auction.conductor.observed import Reason
 from auction.conductor.hand import Hand, Word, sheets_in_force
+from auction.conductor.observed import Reason
 from auction.conductor.server import NoReply, Operator, Refused
 from auction.formats.journal import Journal, JournalFault
 from auction.formats.setup import Setup

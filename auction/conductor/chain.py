@@ -7,10 +7,10 @@ import secrets
 from pathlib import Path
 from typing import Self
 
+from auction.formats.setup import Setup
 from auction.formats.ties import LENGTH, SEED, Committed, bytes_of, checked_draw, has_keys, seed_of
 
 from . import disk
-from auction.formats.setup import Setup
 
 
 class ChainFault(ValueError):

@@ -6,13 +6,13 @@ import enum
 import json
 from pathlib import Path
 
+from auction.formats.journal import Journal
+from auction.formats.setup import Setup
 from auction.formats.ties import MOST_TIES, needed_pairs, ties_of
 
 from . import disk, stored
 from .chain import Chain
-from auction.formats.journal import Journal
 from .server import Operator, Page
-from auction.formats.setup import Setup
 
 # The increments of a closing, in percent: one for all products, or in version 2 one for each.
 Increments = list[int]

@@ -7,9 +7,9 @@ from pathlib import Path
 
 from . import closing, report, timetable
 from .clock import in_words, utc
+from .context import Context
 from .increments import in_words as increments_in_words
 from .increments import increments_for
-from .context import Context
 from .observed import TEN, Reason, whole_ten
 from .plan import Ended, Pause, Plan
 from .server import NoReply, Refused

@@ -8,9 +8,9 @@ from pathlib import Path
 from auction.formats.journal import HEAD, Journal, JournalFault, head_of
 from auction.formats.setup import Setup
 from auction.formats.signatures import new_key, public_of
-from auction.mock import Kind, disagreement
 from auction.formats.strict import published
 from auction.formats.ties import Commitment, Draw, TiesFault, checked_draw
+from auction.mock import Kind, disagreement
 
 from . import disk, stored
 from .chain import Chain

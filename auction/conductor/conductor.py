@@ -10,9 +10,6 @@ from typing import Any
 from auction.formats.journal import JournalFault
 
 from . import closing, disk, room
-from .clock import in_words, utc
-from .closing import NotClosed, Origin, Outcome, Ties
-from .context import Context
 from .actions import (
     Action,
     AnnounceClosing,
@@ -27,9 +24,12 @@ from .actions import (
     SetGate,
     Wait,
 )
+from .clock import in_words, utc
+from .closing import NotClosed, Origin, Outcome, Ties
+from .context import Context
 from .decision import decide
-from .observed import Observed, Reason
 from .increments import increments_for
+from .observed import Observed, Reason
 from .observer import Observer
 from .plan import Plan, StrangePlan
 from .public import opening_key

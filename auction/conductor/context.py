@@ -8,21 +8,22 @@ import os
 from collections.abc import Callable, Iterator
 from pathlib import Path
 
+from auction.formats.journal import Journal
+from auction.formats.setup import Setup
+from auction.mock import Kind
+from auction.standby import mark
+
 from . import disk
-from .public import PublicFiles
 from .clock import Clock, MachineClock
 from .closing import Auction
 from .commitment import check_kind
 from .gate import Gate
-from auction.formats.journal import Journal
 from .notices import Notices, due, facts_of
 from .plan import Act, Plan, PlanFile
+from .public import PublicFiles
 from .server import BiddersPort, NoReply, Operator, Page
 from .settings import HALF_PUT_AWAY, Folders, Settings, SettingsFault, is_half_put_away
 from .timetable import Window
-from auction.formats.setup import Setup
-from auction.mock import Kind
-from auction.standby import mark
 
 STATUS_SECONDS = 10
 

@@ -11,14 +11,14 @@ from auction.formats.ties import MOST_TIES
 from auction.standby import mark
 
 from . import closing, disk, stored
+from .actions import Close, Fix, Freeze, Latch, SetGate, Wait
 from .clock import Clock, in_words, seconds_of
 from .closing import Answer, Auction, Increments, NotClosed, Origin, Ties
 from .context import user
-from .actions import Close, Fix, Freeze, Latch, SetGate, Wait
 from .decision import decide
-from .observed import FOREVER, TEN, Limits, Observed, Plan, Reason, Server, State, Window
 from .gate import Gate
 from .notices import Notices
+from .observed import FOREVER, TEN, Limits, Observed, Plan, Reason, Server, State, Window
 from .pending import pending
 from .report import OPTIONS
 from .settings import Folders, Settings

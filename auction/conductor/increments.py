@@ -4,8 +4,9 @@ results.
 import dataclasses
 from typing import Any
 
-from .server import Page
 from auction.formats.setup import Product, Setup
+
+from .server import Page
 
 LEAST, MOST = 1, 50
 DEFAULT = 10

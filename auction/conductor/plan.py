@@ -9,8 +9,8 @@ from pathlib import Path
 from typing import Any, Self
 
 from . import disk, stored
-from .observed import Reason
 from .increments import DEFAULT, Rule
+from .observed import Reason
 from .timetable import Window
 
 

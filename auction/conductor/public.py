@@ -11,8 +11,8 @@ from auction.mock import MARK
 from . import disk, stored
 from .clock import utc
 from .plan import Plan
-from .settings import Folders
 from .server import Page
+from .settings import Folders
 
 
 def closing_key(number: int) -> str:

@@ -17,7 +17,7 @@ from . import disk
 from .observed import Limits, whole_ten
 
 LONGEST = 10  # seconds that a closing may take
-MOST_DRAIN = 60  # seconds; `auction verify` takes a sheet of later for one of after its window
+MOST_DRAIN = 60  # seconds; `auction verify` says LATE of sheets that are frozen later
 
 
 class SettingsFault(Exception):

@@ -10,8 +10,8 @@ from pathlib import Path
 from typing import Any
 
 from .clock import Clock
-from .observed import TEN, whole_ten
 from .increments import Rule, rules_of
+from .observed import TEN, whole_ten
 
 MOST_WINDOWS = 1_000  # each bidder's page reads all of them
 MOST_MINUTES = 1_440

@@ -9,8 +9,8 @@ from auction.conductor import commands, disk, timetable
 from auction.conductor.clock import utc
 from auction.conductor.commands import Closing, CommandFault
 from auction.conductor.context import Context
-from auction.conductor.observed import Reason
 from auction.conductor.increments import LEAST, MOST
+from auction.conductor.observed import Reason
 from auction.conductor.plan import Plan
 from auction.conductor.timetable import TimetableFault
 

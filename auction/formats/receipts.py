@@ -10,6 +10,7 @@ from typing import Any, NamedTuple, Self
 
 from auction.mock import is_mock_token, kind_in, mark_of
 from auction.recount.formats import Refused, Request, request_in
+
 from .journal import body_in, token_in
 from .sent import NAME, person_in, taken_in
 from .signatures import SIGNATURE, is_signed

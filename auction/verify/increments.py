@@ -32,8 +32,8 @@ def check_increments(case: Case) -> str:
         if closed.increments in found:
             continue
         then = f"and by the rule of notice {rules[-1].number} they are {found[-1]}"
-        if by_hand := person_words(case, entries, number, closed.increments, lines):
-            acts.append(f"BY HAND: {by_hand}, {then}")
+        if how := person_words(case, entries, number, closed.increments, lines):
+            acts.append(f"BY HAND: {how}, {then}")
         else:
             faults.append(
                 f"round {number} was closed with the increments {closed.increments}, {then}"

@@ -1,5 +1,4 @@
 """An auction behind nginx: bidders come over TLS, the operator on the machine itself."""
-import contextlib
 import json
 import os
 import secrets
@@ -8,6 +7,7 @@ import tempfile
 import time
 import urllib.error
 import urllib.request
+from collections.abc import Callable
 from email.message import Message
 from pathlib import Path
 from typing import Any
@@ -93,21 +93,28 @@ class Auction(Site):
         shown = {"round": page["round"], "stamp": page["stamp"], "typed": str(number)}
         assert self.desk("act", {**word, **shown, "given": {}})["state"] == "done"
 
-    def ask_desk(self, act: str, **given: object) -> str:
-        """Asks the desk for an act, as the second person. Returns the state of the answer."""
+    def ask_desk(self, act: str, given: Callable[[], dict[str, object]]) -> str:
+        """Asks the desk for an act, as the second person. Returns the state of the answer. If the
+        desk refuses, asks again with what is given then: the auction may have changed meanwhile.
+        """
+        refusals: list[str] = []
 
         def state() -> str:
             page = self.desk("state")
             typed = str(page["round"]) if act == "close" else ""
-            word = {"act": act, "key": secrets.token_hex(16), "of": "", "given": given}
+            word = {"act": act, "key": secrets.token_hex(16), "of": "", "given": given()}
             shown = {"round": page["round"], "stamp": page["stamp"], "typed": typed}
-            with contextlib.suppress(urllib.error.HTTPError):  # the auction has changed meanwhile
+            try:
                 return str(self.desk("act", {**word, **shown})["state"])
-            return ""
+            except urllib.error.HTTPError as refused:
+                refusals.append(refused.read().decode())
+                return ""
 
-        answers: list[str] = []
-        wait_for(f"the desk takes {act}", lambda: answers.append(state()) or answers[-1], 60, 1)
-        return answers[-1]
+        end = time.monotonic() + 60
+        while not (answer := state()):
+            assert time.monotonic() <= end, f"the desk refuses {act}: {refusals}"
+            time.sleep(1)
+        return answer
 
     def desk(self, path: str, body: object = None) -> dict[str, Any]:
         """What the desk answers to the second person."""

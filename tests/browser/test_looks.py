@@ -108,14 +108,15 @@ def managed(begin_once: Begin) -> Auction:
     auction.close(1)
     auction.begin_conductor(0, between=0, notice=0, drain=0, missed=100)
     auction.begin_desk()
-    auction.ask_desk("plan", timetable=timetable(50, 3600))
-    auction.ask_desk("announce", words="The help desk is at extension 105.")
+    auction.ask_desk("plan", lambda: {"timetable": timetable(50, 3600)})
+    auction.ask_desk("announce", lambda: {"words": "The help desk is at extension 105."})
     clock = [each["next"] for each in auction.ask("v1/rounds/1")["products"]]
     for token in (X, Z):
         held = first[token]
         auction.put(token, 2, *(bid(p, blocks, clock[p]) for p, blocks in held.items()))
     wait_for("the window is open", lambda: auction.desk("state")["state"] == "open", 120, 0.5)
-    assert auction.ask_desk("close", increments=[10], without_sheets=False) == "waits"
+    early: dict[str, object] = {"increments": [10], "without_sheets": False}
+    assert auction.ask_desk("close", lambda: early) == "waits"
     return auction
 
 

@@ -34,6 +34,8 @@ TYPED = [
     *(("pause", "operator"), ("resume", "operator"), ("plan", "operator"), ("close", BOTH)),
     *(("plan", "operator"), ("next", BOTH), ("winners", BOTH)),
 ]
+# What the desk says of an act that comes too late: the conductor did something, or time did.
+PASSED = ("the auction has changed", "would open within", "are in the past")
 FIRE, HELP = "A fire alarm.", "The help desk is at extension 105."
 
 
@@ -63,10 +65,9 @@ def enter(held: Held, window: Window, name: str) -> None:
 
 
 def insist(desk: Window, answer: str, act: Callable[[], None]) -> None:
-    """Does an act until the desk answers so: again if the conductor did something meanwhile. Then
+    """Does an act until the desk answers so: again if what it is for has passed meanwhile. Then
     the desk says so, or the page takes its question back before a person answers.
     """
-    stale = "the auction has changed"
 
     def is_done() -> bool:
         desk.run("document.getElementById('say').textContent = ''")
@@ -74,8 +75,10 @@ def insist(desk: Window, answer: str, act: Callable[[], None]) -> None:
             act()
         except ElementNotInteractableException:
             return False
-        desk.until("the desk answers", lambda: any(w in desk.text("say") for w in (answer, stale)))
-        return answer in desk.text("say")
+        desk.until("the desk answers", lambda: desk.text("say"))
+        said = desk.text("say")
+        assert answer in said or any(words in said for words in PASSED), said
+        return answer in said
 
     wait_for(answer, is_done, PATIENCE)
 

@@ -9,8 +9,8 @@ import pytest
 
 from auction.conductor import hand, settings
 from auction.conductor.closing import NotClosed, Outcome, Ties
-from auction.conductor.observed import Limits, Reason
 from auction.conductor.hand import Hand, Word
+from auction.conductor.observed import Limits, Reason
 from auction.conductor.report import State
 from auction.standby.mark import FENCED, Mark, Marked
 from tests.conductor.conftest import Conduct

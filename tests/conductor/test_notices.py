@@ -9,9 +9,9 @@ import pytest
 
 from auction.conductor import commands, notices
 from auction.conductor.clock import utc
-from auction.conductor.observed import Limits
 from auction.conductor.increments import Rule
 from auction.conductor.notices import Facts, due
+from auction.conductor.observed import Limits
 from auction.conductor.plan import Act, Plan
 from auction.conductor.report import State
 from auction.conductor.timetable import Window

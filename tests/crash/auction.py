@@ -3,9 +3,9 @@ from dataclasses import dataclass
 from pathlib import Path
 from typing import Any
 
+from tests.crash.requests import SETUP_TEXT
 from tests.lib.runs import Run, run
 from tests.lib.server import Server
-from tests.crash.requests import SETUP_TEXT
 
 
 @dataclass(frozen=True)

@@ -16,8 +16,8 @@ from auction.conductor.actions import (
     SetGate,
     Wait,
 )
-from auction.conductor.observed import TEN, Gate, Observed, Plan, Reason, Server, State
 from auction.conductor.hand import by_hand
+from auction.conductor.observed import TEN, Gate, Observed, Plan, Reason, Server, State
 from tests.decisions.world import LIMITS, Closing, Hand, World, check, with_marks, with_window
 
 Decide = Callable[[Observed], Action]

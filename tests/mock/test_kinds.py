@@ -5,8 +5,8 @@ import json
 import pytest
 
 from auction.mock import Kind, disagreement, kind_of, kind_of_value, marked_page, mock_of
-from tests.lib.paths import TOP
 from tests.lib import setups
+from tests.lib.paths import TOP
 
 pytestmark = pytest.mark.early
 

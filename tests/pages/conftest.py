@@ -8,8 +8,8 @@ from collections.abc import Iterator
 
 import pytest
 
-from tests.lib.paths import PATHS
 from tests.conftest import is_there
+from tests.lib.paths import PATHS
 
 SECONDS = 120
 RESULT = re.compile(r"^(ok|not ok) \d+ - (.*)$", re.M)

@@ -4,7 +4,7 @@
 
 use clock_money::Point;
 use clock_processor::{Board, Plain, Processor, Settled};
-use clock_queue::{Requests, settle_by_queue};
+use clock_queue::Woken;
 use clock_setup::read_setup;
 use clock_terms::{Amounts, Change, Changes, Grid, Kind, Setup};
 use std::alloc::Global;
@@ -133,9 +133,9 @@ fn main(rt: HostRuntime) -> anyhow::Result<()> {
             println!(rt; "request {} {} {}", change.bidder, change.product, change.amount)?;
         }
         let board = Board::new(alloc, &setup, &eligibility, &grid)?;
-        let (requests, mut reads) = Requests::counted(&changes);
-        show(&rt, "queue", &setup, &settle_by_queue(alloc, board, &requests, &mut reads)?)?;
-        println!(rt; "reads {}", reads.count())?;
+        let (settled, reads) = Woken::settle_counted(alloc, board, &changes)?;
+        show(&rt, "queue", &setup, &settled)?;
+        println!(rt; "reads {reads}")?;
         let board = Board::new(alloc, &setup, &eligibility, &grid)?;
         show(&rt, "list", &setup, &Plain.settle(alloc, board, &changes)?)?;
     }

@@ -22,6 +22,17 @@ CRATE, SECONDS = "drawn_requests", 580
 PRODUCTS, BIDDERS, SUPPLY = 6, 8, 11
 AUCTIONS = 60
 
+# A line of the queue that has both the requests and their counter, and ways to read without a count
+# in it, each with what it names.
+COUNTED = "        count = with_lines_for(count, change);\n"
+WAYS = {
+    "let _second = Requests::counted(&clock_terms::Changes::new(alloc));": "`counted` is private",
+    "let _third = Reads { count: 0 };": "field `count` of struct `Reads` is private",
+    "reads.count = 0;": "field `count` of struct `Reads` is private",
+    "let _fourth = reads.clone();": "the method `clone` exists for `Reads`, but",
+    "let _list = requests.list;": "field `list` of struct `Requests` is private",
+}
+
 
 @dataclasses.dataclass
 class Ended:
@@ -109,11 +120,9 @@ def auctions_in(text: str) -> list[Drawn]:
     return auctions
 
 
-@pytest.fixture(scope="module")
-def drawn(tmp_path_factory: pytest.TempPathFactory) -> list[Drawn]:
-    """The auctions that the program draws and processes."""
-    crate = write(tmp_path_factory.mktemp("speed"))
-    done = subprocess.run(
+def tried(crate: pathlib.Path) -> subprocess.CompletedProcess[bytes]:
+    """Compiles the program and runs it, unproved."""
+    return subprocess.run(
         ["rt", "try"],
         cwd=crate,
         env={"PATH": PATHS, "HOME": str(crate)},
@@ -121,6 +130,12 @@ def drawn(tmp_path_factory: pytest.TempPathFactory) -> list[Drawn]:
         capture_output=True,
         timeout=SECONDS,
     )
+
+
+@pytest.fixture(scope="module")
+def drawn(tmp_path_factory: pytest.TempPathFactory) -> list[Drawn]:
+    """The auctions that the program draws and processes."""
+    done = tried(write(tmp_path_factory.mktemp("speed")))
     assert done.returncode == 0, done.stderr.decode()[-2000:]
     return auctions_in(done.stdout.decode())
 
@@ -150,6 +165,23 @@ def test_the_queue_reads_a_request_at_most_three_times_for_each_request_and_appl
 
 def test_each_application_takes_a_block(drawn: list[Drawn]) -> None:
     assert [place for place, one in enumerate(drawn) if not one.is_within_blocks()] == []
+
+
+@pytest.mark.timeout(SECONDS)
+def test_the_queue_cannot_read_a_request_without_a_count(tmp_path: pathlib.Path) -> None:
+    """Each way to a second counter, or to the list, is refused by the compiler at its line."""
+    crate = write(tmp_path)
+    source = crate.parent / "clock_queue/src/queue.rt"
+    before, line, after = source.read_text().partition(COUNTED)
+    assert line
+    first = before.count("\n") + 2
+    source.write_text(before + line + "".join(f"{way}\n" for way in WAYS) + after)
+    refused = tried(crate).stderr.decode()
+    for number, (way, words) in enumerate(WAYS.items(), first):
+        assert any(f"queue.rt:{number}:" in one and words in one for one in refused.splitlines()), (
+            way,
+            refused,
+        )
 
 
 # ---- Planted mistakes

@@ -40,7 +40,7 @@ fn run(rt: &HostRuntime) -> io::Result<u8> {
     }
     let done = match read_words(rt.alloc(), words.as_slice()) {
         Ok(Some(Asked::Serve(serving))) => serve(rt, &serving),
-        Ok(Some(Asked::Journal(files))) => tell_texts(rt, &mut ToWriter::new(rt.stdout()), &files),
+        Ok(Some(Asked::Journal(files))) => tell_texts(rt, ToWriter::new(rt.stdout()), &files),
         Ok(Some(Asked::Audit(files))) => tell_audit(rt, &mut ToWriter::new(rt.stdout()), &files),
         parsed => {
             return Ok(parsed_command(

@@ -14,7 +14,7 @@ use Rattle.clock_terms.specs.declared.setup.Product.{Product}
 use Rattle.clock_bids.specs.declared.sheet.Bid.{Bid}
 use Rattle.clock_bids.specs.Sheet.{chain_of}
 use Rattle.clock_bids.specs.inside.Chains.{bid_at, last_of, last_bids}
-use Rattle.clock_bids.specs.inside.LastBids.{AreLastPlaces}
+use Rattle.clock_bids.specs.inside.LastBids.{AreLastPlaces, IsTableBefore}
 use Rattle.clock_bids.proofs.ByProduct.{filter_none}
 use Rattle.clock_bids.proofs.Tables.{no_bid, last_bids-nil, last_bids-more, none_at, bid_here}
 
@@ -142,3 +142,12 @@ module _ (bids : List Bid) (places : List ℕ) (product : ℕ) where
       → option_copied found ≡ get_or (map (bid_at bids) places) product None
   some_place place i found within is some before lookup same =
       copied found i lookup same ∙ sym (at_place place i some before) ∙ sym (in_table place within is)
+
+-- a table before a bid is one before the next bid too
+pub table_later : (products : List Product) (bids : List Bid) (place placed : ℕ) (places : List ℕ)
+    → IsTableBefore (length products) bids place placed places
+    → IsTableBefore (length products) bids (place + 1) placed places
+table_later products bids place placed places before = record {
+  order = omega (arith, before.order);
+  table = before.table;
+}

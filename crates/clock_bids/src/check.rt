@@ -7,7 +7,7 @@ ghost use Rattle.clock_terms.specs.Eligibility as eligibilities;
 ghost use Rattle.clock_bids.specs.{Holding.{holding_of}, inside.Parts.{checks_of_bids}};
 ghost use Rattle.clock_bids.specs.Sheet.{IsGoodSheet, asked_demands, most_bids, sheet_fault};
 ghost use Rattle.clock_bids.specs.inside.Chains.{bid_at, checks_by_last, last_bids, quantity_of};
-ghost use Rattle.clock_bids.specs.inside.LastBids.{AreLastPlaces};
+ghost use Rattle.clock_bids.specs.inside.LastBids.{AreLastPlaces, IsTableBefore};
 
 use crate::sheet::{Bid, BidFault, Own, Sheet};
 use clock_device::{Items, NoMemory};
@@ -135,19 +135,17 @@ fn judge(
     let mut near = 0;
     let mut taken: u64 = 0;
     let mut least: u64 = 0;
-    let mut placed = 0;
-    let mut places = Vec::new(alloc);
+    let mut table = LastPlaces {
+        placed: 0,
+        places: Vec::new(alloc),
+    };
     for (i, bid) in bids.iter().enumerate() {
         let last = if bid.product >= least {
             // The highest number wraps to 0. No product has it, so `bid_fault` refuses the bid.
             least = bid.product.wrapping_add(1);
             None
-        } else if let Some(before) = bid_before(bids, i, bid.product) {
-            Some(before)
         } else {
-            places = last_places(alloc, places, bids, products.len(), placed, i)?;
-            placed = i;
-            last_bid(bids, places.as_slice(), bid.product)
+            earlier_bid(alloc, &mut table, bids, products.len(), i, bid.product)?
         };
         if let Some(fault) = bid_fault(products, prices, demands, &mut near, last, i as u64, bid) {
             return Err(fault);
@@ -187,34 +185,69 @@ fn bid_before(bids: &[Bid], place: usize, product: u64) -> Option<&Bid>
     (before.product == product).then_some(before)
 }
 
-/// Returns for each product the index of its last bid among the first `place` bids, counted from 1,
-/// or 0 if there is none. May return `NoMemory`.
-///
-/// `places` has the first `placed` bids already; if `placed` is 0, it is allocated here. Marked as
-/// cold so that LLVM leaves in registers what bids for rising products need.
-#[cold]
-fn last_places(
-    alloc: Global,
-    mut places: Vec<u16>,
-    bids: &[Bid],
-    products: usize,
+/// For each product the index of its last bid among the first `placed` bids of a sheet, counted
+/// from 1, or 0 if there is none. Not allocated if `placed` is 0.
+#[derive(Drop)]
+struct LastPlaces {
     placed: usize,
+    places: Vec<u16>,
+}
+
+/// Returns the last bid for `product` before index `place`, if there is one. May return `NoMemory`.
+///
+/// Marked as cold so that LLVM leaves in registers what bids for rising products need.
+#[cold]
+fn earlier_bid<'a>(
+    alloc: Global,
+    table: &mut LastPlaces,
+    bids: &'a [Bid],
+    products: usize,
     place: usize,
-) -> Result<Vec<u16>, NoMemory>
+    product: u64,
+) -> Result<Option<&'a Bid>, NoMemory>
     requires few { length bids.now ≤ most_bids }
-    requires order { placed ≤ place }
     requires place { place ≤ length bids.now }
     requires known { All (λ bid. bid.product < products) (take place bids.now) }
-    requires placed { 0 < placed → AreLastPlaces products bids.now placed places.items }
-    ensures { IfOk result (λ places. AreLastPlaces products bids.now place places.items) }
+    requires table { IsTableBefore products bids.now place
+        table.old.placed table.old.places.items }
+    ensures last { IfOk result (λ last. option_copied last
+        ≡ slice_index_or (last_bids products (take place bids.now)) product None) }
+    ensures table { OnOk result (IsTableBefore products bids.now place
+        table.new.placed table.new.places.items) }
 {
-    if placed == 0 {
-        places = vec![in alloc; 0; products]?;
+    if let Some(before) = bid_before(bids, place, product) {
+        return Ok(Some(before));
     }
-    for i in placed..place {
-        places[bids[i].product as usize] = i as u16 + 1;
+    table.add(alloc, bids, products, place)?;
+    Ok(last_bid(bids, table.places.as_slice(), product))
+}
+
+impl LastPlaces {
+    /// Adds the bids before index `place`. May return `NoMemory`.
+    fn add(
+        &mut self,
+        alloc: Global,
+        bids: &[Bid],
+        products: usize,
+        place: usize,
+    ) -> Result<(), NoMemory>
+        requires few { length bids.now ≤ most_bids }
+        requires place { place ≤ length bids.now }
+        requires known { All (λ bid. bid.product < products) (take place bids.now) }
+        requires table { IsTableBefore products bids.now place
+            self.old.placed self.old.places.items }
+        ensures placed { OnOk result (self.new.placed ≡ place) }
+        ensures places { OnOk result (AreLastPlaces products bids.now place self.new.places.items) }
+    {
+        if self.placed == 0 {
+            self.places = vec![in alloc; 0; products]?;
+        }
+        for i in self.placed..place {
+            self.places[bids[i].product as usize] = i as u16 + 1;
+        }
+        self.placed = place;
+        Ok(())
     }
-    Ok(places)
 }
 
 /// Returns the last bid for a product from such a table, if there is one.

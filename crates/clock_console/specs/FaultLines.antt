@@ -94,10 +94,11 @@ abbrev pub of_script : ScriptFault → Fault
 of_script in_script.NoMemory = fault.Memory
 of_script other = fault.Script other
 
--- the fault of a file that is not accepted as the journal, or of its disk
+-- the fault of a file that is not accepted as the journal, or of its disk, or of reading it
 abbrev pub of_journal : JournalFault → Fault
 of_journal in_journal.NoMemory = fault.Memory
 of_journal in_journal.Failed = fault.Journal
+of_journal in_journal.Unread = fault.Journal
 of_journal other = fault.Recovery other
 
 -- the fault of a journal and its mirror, or of their disks
@@ -113,6 +114,7 @@ recovery_words (in_journal.Damaged place) = codes "journal_damaged " ++ decimal 
 recovery_words (in_journal.Refused place) = codes "journal_refused " ++ decimal place
 recovery_words in_journal.NoMemory = codes "memory"
 recovery_words in_journal.Failed = codes "journal"
+recovery_words in_journal.Unread = codes "journal"
 
 -- a fault of a document has the document's words
 abbrev pub fault_words : Fault → List ℕ

@@ -101,7 +101,7 @@ impl From<JournalFault> for Fault {
     fn from(fault: JournalFault) -> Fault {
         match fault {
             JournalFault::NoMemory => Fault::Memory,
-            JournalFault::Failed => Fault::Journal,
+            JournalFault::Failed | JournalFault::Unread => Fault::Journal,
             _ => Fault::Recovery(fault),
         }
     }
@@ -204,6 +204,7 @@ fn words_of(fault: Fault) -> Words
         Fault::Recovery(JournalFault::Refused(place)) => { words!("journal_refused", place as u64) }
         Fault::Recovery(JournalFault::NoMemory) => words!("memory"),
         Fault::Recovery(JournalFault::Failed) => words!("journal"),
+        Fault::Recovery(JournalFault::Unread) => words!("journal"),
         Fault::Differs(place) => words!("journal_differs", place as u64),
         Fault::Bind => words!("bind"),
         Fault::Output => words!("output"),

@@ -1,4 +1,6 @@
-ghost use Rattle.std.specs.Prelude.{◌≡◌, ◌++◌, Ok, All, length, IfOk, IfErr, OnOk};
+ghost use Rattle.std.specs.Prelude.{◌≡◌, ◌≤◌, ◌+◌, ◌++◌, Ok, All, length, drop, IfOk, IfErr};
+ghost use Rattle.std.specs.Prelude.{OnOk};
+ghost use Rattle.clock_device.specs.Decimal.{number_or_dash};
 ghost use Rattle.clock_terms.specs.{Demands.{IsGrid}, Faults.{IsRefusal}, Increments.{IsIncrement}};
 ghost use Rattle.clock_terms.specs.Limits.{IsProduct};
 ghost use Rattle.clock_setup.specs.OpeningDocument.{document_opening};
@@ -7,11 +9,12 @@ ghost use Rattle.clock_console.specs.Prices.{first_round, opening_lines_of, pric
 ghost use Rattle.clock_console.specs.PriceLines.{price_line, price_lines};
 
 use crate::fault::Fault;
-use clock_device::{NoMemory, Text};
-use clock_money::clock_price;
+use clock_device::{NoMemory, Text, put_before};
+use clock_money::{Price, clock_price};
 use clock_posting::{PostFault, post_first, sheet_lines};
 use clock_setup::{Opening, read_opening, read_setup};
 use clock_terms::{Increments, Product, Setup};
+use itoa::write_digits;
 use std::alloc::Global;
 
 /// Reads a set-up document. Errors: its first fault. May return `Memory`, which then replaces any
@@ -37,20 +40,43 @@ fn prices_text(alloc: Global, products: &[Product], increment: u64) -> Result<Te
     Ok(text)
 }
 
-/// Appends the price line of a product. May return `NoMemory`; then part of the line may be
-/// appended.
+/// The most bytes that the numbers of a price line take: two numbers of 20 digits, each after a
+/// space, and a line feed.
+const NUMBERS_ROOM: usize = 43;
+
+/// Writes a price, or a dash for `None`, so that it ends before index `end`. Returns the index at
+/// which it begins.
+#[inline(always)]
+fn put_or_dash(bytes: &mut [u8], end: usize, price: Option<Price>) -> usize
+    requires room { 20 ≤ end }
+    requires within { end ≤ length bytes.old }
+    ensures start { end ≤ result + 20 }
+    ensures order { result ≤ end }
+    ensures same_length { length bytes.new ≡ length bytes.old }
+    ensures put { drop result bytes.new ≡ number_or_dash price ++ drop end bytes.old }
+{
+    match price {
+        Some(price) => write_digits(price.get(), bytes, end),
+        None => put_before(bytes, end, b"-"),
+    }
+}
+
+/// Appends the price line of a product. Writes what follows the name into an array from its end to
+/// its start, and copies it once. May return `NoMemory`; then part of the line may be appended.
 fn push_line(text: &mut Text, product: &Product, increment: u64) -> Result<(), NoMemory>
     requires increment { IsIncrement increment }
     requires product { IsProduct product.now }
     ensures { OnOk result (text.new ≡ text.old ++ price_line increment product.now) }
 {
-    text.extend_from_slice(product.name.as_slice())?;
-    text.push(b' ')?;
-    text.push_number(product.opening.get())?;
-    text.push(b' ')?;
     let clock = clock_price(product.opening, increment, product.granule);
-    text.push_or_dash(clock.map(|price| price.get()))?;
-    text.push(b'\n')
+    let mut numbers = [0; NUMBERS_ROOM];
+    let end = put_before(&mut numbers, NUMBERS_ROOM, b"\n");
+    let clock_at = put_or_dash(&mut numbers, end, clock);
+    let behind_opening = put_before(&mut numbers, clock_at, b" ");
+    let opening_at = put_or_dash(&mut numbers, behind_opening, Some(product.opening));
+    let start = put_before(&mut numbers, opening_at, b" ");
+    text.extend_from_slice(product.name.as_slice())?;
+    text.extend_from_slice(&numbers[start..])
 }
 
 /// Returns the opening price and the clock price of round 2 of each product of a set-up document,

@@ -56,13 +56,13 @@ enough_for_report first texts house digests given report recounted is same =
     )
 
 -- what is printed for an auction that stands for all texts of a file
-pub audit_is : (setup setup_new : SetupFields) (first bytes given shown : List ℕ) (texts : List (List ℕ))
-    (recovered : Recovered) → given ≡ bytes → setup_new ≡ setup → AreTextsOf first given texts recovered
+pub audit_is : (setup setup_new : SetupFields) (first bytes shown : List ℕ) (texts : List (List ℕ))
+    (recovered : Recovered) → setup_new ≡ setup → AreTextsOf first bytes texts recovered
     → NoneRefused (IsRefused setup) [] texts → shown ≡ audited setup_new first (reverse texts)
     → IsAuditOf setup first bytes shown recovered
-audit_is setup setup_new first bytes given shown texts recovered same same_setup are accepted is = record {
+audit_is setup setup_new first bytes shown texts recovered same_setup are accepted is = record {
   texts = texts;
-  are = subst (λ (file : List ℕ). AreTextsOf first file texts recovered) same are;
+  are = are;
   accepted = accepted;
   shown_is = is ∙ ap (λ (of_setup : SetupFields). audited of_setup first (reverse texts)) same_setup;
 }

@@ -5,7 +5,8 @@
 --         digits, the oldest first
 --     IsRecounted first texts house digests      the auction stands for the texts, with the digests
 --         of its closings
---     IsAuditFault setup first bytes fault      the reported fault is one of this file
+--     IsAuditFault setup first bytes before after fault      the reported fault is one of this
+--         file, or its source was not read
 --     audited setup first texts      what an audit prints of the rounds
 --     IsAuditOf setup first bytes shown recovered      this is printed of all texts of a file
 use Rattle.std.specs.Prelude.{◌≡◌, ◌++◌, ℕ, List, [], ◌∷◌, reverse}
@@ -20,8 +21,10 @@ use Rattle.clock_front.specs.declared.front.response.Effect.{Effect}
 use Rattle.clock_front.specs.declared.front.response.Effect.TheVariants.{Nothing, Sheet, Closing}
 use Rattle.clock_console.specs.FaultLines.{of_journal}
 use Rattle.clock_console.specs.declared.fault.Fault.{Fault}
-use Rattle.clock_journal.specs.Recovering.{AreTextsOf, IsFound, record_at}
+use Rattle.clock_device.specs.Reports.{SourceReport}
+use Rattle.clock_journal.specs.Recovering.{AreTextsOf, record_at}
 use Rattle.clock_journal.specs.Resuming.{NoneRefused}
+use Rattle.clock_journal.specs.Sources.{IsNotRead}
 use Rattle.clock_journal.specs.declared.recovery.JournalFault.{JournalFault}
 use Rattle.clock_journal.specs.declared.recovery.Recovered.{Recovered}
 use Rattle.clock_server.specs.Keeping.{IsRefused}
@@ -48,12 +51,13 @@ pub record IsRecounted (first : List ℕ) (texts : List (List ℕ)) (house : Hou
   pub stands : StandsForTexts texts house
   pub digests_are : digests ≡ closing_digests house.setup first texts
 
--- the file has this fault, and a text that is reported as refused is refused after those before it
-pub record IsAuditFault (setup : SetupFields) (first bytes : List ℕ)
+-- the file has this fault, and a text that is reported as refused is refused after those before it;
+-- or its source, with these reports before and after, was not read
+pub record IsAuditFault (setup : SetupFields) (first bytes : List ℕ) (before after : SourceReport)
     (reported : Fault) : Type 0 where
   pub fault : JournalFault
   pub reported_is : reported ≡ of_journal fault
-  pub is : IsFound (IsRefused setup) first bytes fault
+  pub is : IsNotRead (IsRefused setup) first bytes before after fault
 
 -- the lines of the closed rounds, each with its closing's digest, and what each bidder won if the
 -- auction has ended

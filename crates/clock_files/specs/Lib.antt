@@ -1,3 +1,4 @@
 pub mod Audits
 pub mod Listings
 pub mod Serving
+pub mod inside

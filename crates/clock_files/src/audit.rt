@@ -1,15 +1,16 @@
 //! `audit`: an auction that is counted again, from its set-up document and its journal only.
 ghost use Rattle.std.specs.Prelude.{◌≡◌, [], List, ℕ, IfOk, IfErr};
 ghost use Rattle.clock_terms.specs.Limits.{SetupFields};
+ghost use Rattle.clock_journal.specs.Sources.{HasBytes};
 ghost use Rattle.clock_server.specs.Keeping.{IsRefused};
 ghost use Rattle.clock_files.specs.Audits.{IsAuditOf, IsRecounted, IsAuditFault, audited};
 
 use crate::document::front_in;
-use crate::files::{digits_of, file_bytes, journal_bytes, tell_all};
+use crate::files::{digits_of, file_bytes, journal_source, tell_all};
 use clock_console::{Fault, NamedFiles};
-use clock_device::{NoMemory, Sink, Text};
+use clock_device::{NoMemory, Sink, Source, Text};
 use clock_front::{Effect, Front};
-use clock_journal::{Link, Machine, Record, Recovered, TakeError, digest_of, recover};
+use clock_journal::{Link, Machine, Record, Recovered, TakeError, digest_of, recover_from};
 use clock_queue::Woken;
 use clock_reports::{Digits, audit_text, report_so_far};
 use clock_server::take_text;
@@ -27,8 +28,8 @@ where
     let front = front_in(rt.alloc(), document)?;
     let digests = Vec::new(rt.alloc());
     let mut recount = Recount { front, digests };
-    let made = match journal_bytes(rt, named.journal) {
-        Ok(bytes) => audit_of(rt.alloc(), &mut recount, &first, bytes),
+    let made = match journal_source(rt, named.journal) {
+        Ok(mut source) => audit_of(rt.alloc(), &mut recount, &first, &mut source),
         Err(fault) => Err(fault),
     };
     drop(recount);
@@ -63,21 +64,25 @@ impl Machine for Recount {
 }
 
 /// Returns the lines of the closed rounds in a journal, each with the digest of its closing, and if
-/// the auction has ended, what each bidder won. `first` is the digest of the set-up document.
-/// Returns what was recovered, too. Requires a recount without texts.
-pub fn audit_of(
+/// the auction has ended, what each bidder won. `first` is the digest of the set-up document, and
+/// `source` has the journal, of which at most one record is in memory. Returns what was recovered,
+/// too. Requires a recount without texts.
+pub fn audit_of<S: Source>(
     alloc: Global,
     recount: &mut Recount,
     first: &Link,
-    bytes: Vec<u8>,
+    source: &mut S,
 ) -> Result<(Text, Recovered), Fault>
     requires { IsRecounted first.now [] recount.old.front recount.old.digests.items }
-    ensures ok { IfOk result
-        (λ audit. IsAuditOf recount.old.front.setup first.now bytes.items audit.0 audit.1) }
-    ensures err { IfErr result (IsAuditFault recount.old.front.setup first.now bytes.items) }
+    ensures ok { IfOk result (λ audit. (bytes : List ℕ)
+        × HasBytes (S.report source.old).left bytes
+        × IsAuditOf recount.old.front.setup first.now bytes audit.0 audit.1) }
+    ensures err { IfErr result (λ fault. (bytes : List ℕ)
+        × HasBytes (S.report source.old).left bytes
+        × IsAuditFault recount.old.front.setup first.now bytes (S.report source.old)
+        (S.report source.new) fault) }
 {
-    let recovered = recover(recount, first, bytes.as_slice())?;
-    drop(bytes);
+    let recovered = recover_from(alloc, recount, first, source)?;
     let text = rounds_of(alloc, recount)?;
     Ok((text, recovered))
 }

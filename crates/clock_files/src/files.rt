@@ -4,14 +4,17 @@ ghost use Rattle.hex.specs.Hex.{encode_lower};
 
 use clock_console::{Fault, read_all};
 use clock_device::{FromReader, Sink, Text, write_all};
-use clock_journal::{Link, Recovered};
+use clock_journal::{Link, Machine, Record, Recovered, TakeError};
 use clock_reports::Digits;
 use hex::encode_to_slice;
 use std::alloc::Global;
 use std::fs::{File, TryLockError};
-use std::io::{self, Read};
+use std::io::{self, BufReader, Seek, SeekFrom};
 use std::os::fd::AsRawFd;
 use std::rt::Files;
+
+/// How many bytes of a journal the program reads at once.
+const PIECE: usize = 65_536;
 
 /// The number of standard output among the files of the process.
 const STANDARD_OUTPUT: i32 = 1;
@@ -25,46 +28,75 @@ pub(crate) fn file_bytes<R: Files + Alloc<A = Global>>(rt: &R, path: &str) -> Re
     }
 }
 
-/// Reads all bytes of a journal, and changes nothing in it.
-pub(crate) fn journal_bytes<R>(rt: &R, path: &str) -> Result<Vec<u8>, Fault>
+/// A file that is read in pieces.
+pub(crate) type FileSource = FromReader<BufReader<File>>;
+
+/// Opens a journal, and changes nothing in it. Refuses a device, since it may never end.
+pub(crate) fn journal_source<R>(rt: &R, path: &str) -> Result<FileSource, Fault>
 where
     R: Files<File = File> + Alloc<A = Global>,
 {
     let file = File::open(rt, path).or(Err(Fault::Journal))?;
-    bytes_of(rt.alloc(), &file)
+    if !is_regular(&file) {
+        return Err(Fault::Journal);
+    }
+    source_of(rt.alloc(), file)
 }
 
-/// Locks a file, and reads all its bytes. Refuses a file that has the number of standard output,
-/// which was closed when the program began: the program would print into the journal.
-pub(crate) fn locked_bytes(alloc: Global, file: &File) -> Result<Vec<u8>, Fault> {
+/// Returns a file from its start on as a source.
+pub(crate) fn source_of(alloc: Global, mut file: File) -> Result<FileSource, Fault> {
+    file.seek(SeekFrom::Start(0)).or(Err(Fault::Journal))?;
+    let reader = BufReader::with_capacity(alloc, PIECE, file).or(Err(Fault::Memory))?;
+    Ok(FromReader::new(reader))
+}
+
+/// Returns whether a file is a regular one. A device may never end.
+fn is_regular(file: &File) -> bool {
+    matches!(file.metadata(), Ok(metadata) if metadata.is_file())
+}
+
+/// Locks a file. Refuses a device, and a file that has the number of standard output, which was
+/// closed when the program began: the program would print into the journal.
+pub(crate) fn lock(file: &File) -> Result<(), Fault> {
     if file.as_raw_fd() == STANDARD_OUTPUT {
         return Err(Fault::Output);
     }
     // before the lock, so that a device is never reported as busy
-    if !matches!(file.metadata(), Ok(metadata) if metadata.is_file()) {
+    if !is_regular(file) {
         return Err(Fault::Journal);
     }
     match file.try_lock() {
-        Ok(()) => bytes_of(alloc, file),
+        Ok(()) => Ok(()),
         Err(TryLockError::WouldBlock) => Err(Fault::JournalBusy),
         Err(TryLockError::Error(_)) => Err(Fault::Journal),
     }
 }
 
-/// Reads all bytes of a regular file. Refuses a device, since it may never end.
-fn bytes_of(alloc: Global, file: &File) -> Result<Vec<u8>, Fault> {
+/// Returns the number of bytes of a file.
+pub(crate) fn length_of(file: &File) -> Result<usize, Fault> {
     let metadata = file.metadata().or(Err(Fault::Journal))?;
-    if !metadata.is_file() {
-        return Err(Fault::Journal);
-    }
-    // with one more byte of capacity, the end is found without another allocation
-    let room = (metadata.len() as usize).saturating_add(1);
-    let mut bytes = Vec::with_capacity(alloc, room).or(Err(Fault::Memory))?;
-    let mut reader = file;
-    match reader.read_to_end(&mut bytes) {
-        Ok(_) => Ok(bytes),
-        Err(error) if error.kind() == io::ErrorKind::OutOfMemory => Err(Fault::Memory),
-        Err(_) => Err(Fault::Journal),
+    Ok(metadata.len() as usize)
+}
+
+/// Returns the same open file once more: both have one place from which they read, and one lock.
+pub(crate) fn reopened(file: &File) -> Result<File, Fault> {
+    file.try_clone().or(Err(Fault::Journal))
+}
+
+/// A machine that takes any text: with it, [`recover_from`](clock_journal::recover_from) finds the
+/// faults of a journal that need no auction.
+#[derive(Drop)]
+pub(crate) struct AnyText;
+
+impl Machine for AnyText {
+    ghost rules = { λ any. tt };
+
+    ghost stands_for = { λ any digest texts. Unit {0} };
+
+    ghost refuses = { λ rules texts text. ⊥ };
+
+    fn take(&mut self, _text: &[u8], _at: &Record) -> Result<(), TakeError> {
+        Ok(())
     }
 }
 

@@ -10,5 +10,5 @@ mod serving;
 
 pub use audit::{Recount, audit_of, tell_audit};
 pub use document::{ReadAuction, front_in, read_auction};
-pub use journal_text::{listing_of, tell_texts};
+pub use journal_text::{list_texts, tell_texts};
 pub use serving::{mirrored, serve, serve_fault, serve_read, server_fault};

@@ -2,19 +2,22 @@
 ghost use Rattle.std.specs.Prelude.{◌≡◌, ◌⊎◌, ◌||◌, if◌then◌else◌, List, ℕ, Err, IfOk, false, true};
 ghost use Rattle.std.specs.Prelude.{None, Some};
 ghost use Rattle.clock_device.specs.Reports.{unread, unused};
-ghost use Rattle.clock_journal.specs.Mirrors.{longer};
+ghost use Rattle.clock_journal.specs.{Levels.{AreSeen, Bytes}, Mirrors.{longer}};
+ghost use Rattle.clock_journal.specs.Sources.{HasBytes, IsUnreadable};
 ghost use Rattle.clock_server.specs.Keeping.{GrowsBy};
 ghost use Rattle.clock_server.specs.Exchanges.{Came, Exchange, bytes_given};
 ghost use Rattle.clock_server.specs.Generations.{EndsGeneration};
 ghost use Rattle.clock_files.specs.Serving.{IsReadFrom, of_server, of_serving};
 
 use crate::document::{ReadAuction, read_auction};
-use crate::files::{digits_of, file_bytes, locked_bytes, tell_journal};
+use crate::files::{
+    AnyText, FileSource, digits_of, file_bytes, length_of, lock, reopened, source_of, tell_journal,
+};
 use clock_console::{Fault, Serving};
-use clock_device::{Failed, FromReader, ToWriter};
+use clock_device::{Failed, FromReader, Source, ToWriter};
 use clock_journal::{
-    Durable, EndedJournal, FileDisk, Link, Machine, Mirror, NewJournal, Record, Recovered,
-    TakeError, level, recover,
+    Durable, EndedJournal, FileDisk, JournalFault, Link, Mirror, NewJournal, Recovered, level,
+    recover_from,
 };
 use clock_server::{
     Acceptor, Announcer, Connection, Listen, ServeFault, ServerFault, accept_on, serve_from,
@@ -54,16 +57,17 @@ fn opened<R: Files<File = File>>(rt: &R, path: &str) -> Result<File, Fault> {
     how.open(rt, path).or(Err(Fault::Journal))
 }
 
-/// Opens and locks the file of a journal, and reads all its bytes.
-fn locked<R>(rt: &R, path: &str) -> Result<(FileDisk<File>, Vec<u8>), Fault>
+/// Opens and locks the file of a journal. Returns its disk, and the file once more, to be read.
+fn locked<R>(rt: &R, path: &str) -> Result<(FileDisk<File>, File), Fault>
 where
-    R: Files<File = File> + Alloc<A = Global>,
+    R: Files<File = File>,
     ensures { IfOk result
         (λ locked. ⟦<FileDisk<File> as Durable>⟧.has_failed locked.0 ≡ false) }
 {
     let file = opened(rt, path)?;
-    let bytes = locked_bytes(rt.alloc(), &file)?;
-    Ok((FileDisk::new(file), bytes))
+    lock(&file)?;
+    let again = reopened(&file)?;
+    Ok((FileDisk::new(file), again))
 }
 
 /// Serves with the journal in a file.
@@ -76,7 +80,7 @@ where
         + Alloc<A = Global>,
 {
     match locked(rt, path) {
-        Ok((disk, bytes)) => serve_disk(rt, read, serving, disk, bytes),
+        Ok((disk, file)) => serve_disk(rt, read, serving, disk, file),
         Err(fault) => {
             drop(read);
             Err(fault)
@@ -100,7 +104,7 @@ where
         + Alloc<A = Global>,
 {
     match locked_mirror(rt, &read.digest, path, second_path) {
-        Ok((disk, bytes)) => serve_disk(rt, read, serving, disk, bytes),
+        Ok((disk, file)) => serve_disk(rt, read, serving, disk, file),
         Err(fault) => {
             drop(read);
             Err(fault)
@@ -108,72 +112,71 @@ where
     }
 }
 
-/// Opens, locks, and reads the two files of a journal, and makes one disk of them.
+/// Opens and locks the two files of a journal, and makes one disk of them. Returns the first file,
+/// too, which has all bytes of the disk.
 fn locked_mirror<R>(
     rt: &R,
     digest: &Link,
     path: &str,
     second_path: &str,
-) -> Result<(Mirror<FileDisk<File>, FileDisk<File>>, Vec<u8>), Fault>
+) -> Result<(Mirror<FileDisk<File>, FileDisk<File>>, File), Fault>
 where
     R: Files<File = File> + Alloc<A = Global>,
     ensures { IfOk result
         (λ made. (made.0.first.has_failed || made.0.second.has_failed) ≡ false) }
 {
-    let (first, one) = locked(rt, path)?;
-    let (second, other) = locked(rt, second_path)?;
-    mirrored(digest, first, second, one, other)
+    let (first, file) = locked(rt, path)?;
+    let (second, second_file) = locked(rt, second_path)?;
+    check_longer(rt.alloc(), digest, &file, &second_file)?;
+    let mut one = source_of(rt.alloc(), reopened(&file)?)?;
+    let mut other = source_of(rt.alloc(), second_file)?;
+    let disk = mirrored(first, second, &mut one, &mut other)?;
+    Ok((disk, file))
 }
 
-/// Makes one disk of two, of which `one` and `other` are all bytes, and returns all bytes that it
-/// has then, those of the longer file.
+/// Checks that the longer of two files is a journal of the set-up document with this digest, so
+/// that a file of another auction is refused before a disk is changed. Errors: as [`recover_from`].
+fn check_longer(alloc: Global, digest: &Link, one: &File, other: &File) -> Result<(), Fault> {
+    let is_second = length_of(one)? < length_of(other)?;
+    let longer = if is_second { other } else { one };
+    let mut source = source_of(alloc, reopened(longer)?)?;
+    recover_from(alloc, &mut AnyText, digest, &mut source)?;
+    Ok(())
+}
+
+/// Makes one disk of two, of which `one` and `other` are sources of all bytes. It has then those of
+/// the longer file.
 ///
-/// Requires that no call of the disks has failed. Errors, in this order: as [`recover`], if the
-/// longer file is no journal of the set-up document with this digest; as [`level`]. Before either
-/// of the first two, no disk is changed.
-pub fn mirrored<A: Durable + Drop, B: Durable + Drop>(
-    digest: &Link,
+/// Requires that no call of the disks has failed. Errors: as [`level`].
+pub fn mirrored<A: Durable + Drop, B: Durable + Drop, S: Source, T: Source>(
     first: A,
     second: B,
-    one: Vec<u8>,
-    other: Vec<u8>,
-) -> Result<(Mirror<A, B>, Vec<u8>), Fault>
+    one: &mut S,
+    other: &mut T,
+) -> Result<Mirror<A, B>, Fault>
     requires first { A.has_failed first ≡ false }
     requires second { B.has_failed second ≡ false }
-    requires bytes { ((A.written first ≡ Some one.items) × (B.written second ≡ Some other.items))
-        ⊎ ((A.written first ≡ None) × (B.written second ≡ None)) }
-    ensures bytes { IfOk result (λ made. made.1.items ≡ longer one.items other.items) }
+    requires bytes { AreSeen (A.written first) (B.written second) (S.report one.old).left
+        (T.report other.old).left }
+    ensures bytes { IfOk result (λ disk.
+        (bytes : Bytes (S.report one.old).left (T.report other.old).left)
+        × (A.written first ≡ Some bytes.one
+        → disk.first.written ≡ Some (longer bytes.one bytes.other))) }
     ensures unfailed { IfOk result
-        (λ made. (made.0.first.has_failed || made.0.second.has_failed) ≡ false) }
+        (λ disk. (disk.first.has_failed || disk.second.has_failed) ≡ false) }
 {
-    recover(
-        &mut AnyText,
-        digest,
-        longer_of(one.as_slice(), other.as_slice()),
-    )?;
     let (mut first, mut second) = (first, second);
-    level(&mut first, &mut second, one.as_slice(), other.as_slice())?;
-    let disk = Mirror::new(first, second);
-    if one.len() < other.len() {
-        return Ok((disk, other));
-    }
-    Ok((disk, one))
+    level(&mut first, &mut second, one, other)?;
+    Ok(Mirror::new(first, second))
 }
 
-/// Returns the longer of two files.
-fn longer_of<'a>(one: &'a [u8], other: &'a [u8]) -> &'a [u8]
-    ensures { result.now ≡ longer one.now other.now }
-{
-    if one.len() < other.len() { other } else { one }
-}
-
-/// Serves with a journal on a disk, of which `bytes` are all bytes.
+/// Serves with a journal on a disk, of which `file` has all bytes.
 fn serve_disk<R, D: Durable + Drop>(
     rt: &R,
     read: ReadAuction,
     serving: &Serving,
     disk: D,
-    bytes: Vec<u8>,
+    file: File,
 ) -> Result<(), Fault>
 where
     R: Files<File = File>
@@ -183,7 +186,14 @@ where
         + Alloc<A = Global>,
     requires { D.has_failed disk ≡ false }
 {
-    let length = bytes.len();
+    let (length, source) = match begun(rt.alloc(), file) {
+        Ok(begun) => begun,
+        Err(fault) => {
+            drop(disk);
+            drop(read);
+            return Err(fault);
+        }
+    };
     // reports bytes after the last text, which will be truncated
     let tell = |recovered: Recovered| {
         let end = recovered.end;
@@ -198,33 +208,46 @@ where
     let mut port = JournalPort::new(rt, serving);
     let count = serving.connections;
     let alloc = rt.alloc();
-    let (served, ended) = serve_read(
-        alloc, read, journal, announcer, bytes, tell, &mut port, count,
+    let (served, ended, left) = serve_read(
+        alloc, read, journal, announcer, source, tell, &mut port, count,
     );
     drop(ended);
+    drop(left);
     match served {
         Ok(()) => Ok(()),
         Err(fault) => Err(server_fault(fault)),
     }
 }
 
+/// Returns the length of a file, and its bytes as a source.
+fn begun(alloc: Global, file: File) -> Result<(usize, FileSource), Fault> {
+    let length = length_of(&file)?;
+    Ok((length, source_of(alloc, file)?))
+}
+
 /// Serves the auction of a set-up document with [`serve_from`], and with the journal of the same
-/// document. `bytes` are all bytes of its disk.
+/// document. `source` has all bytes of its disk. Returns the source, too, if the journal could not
+/// be resumed.
 ///
 /// Requires a journal with the digest of the document, that has not failed, and connections of
 /// which none is open and none has failed. Errors: as [`serve_from`].
-pub fn serve_read<D, A, C, F>(
+pub fn serve_read<D, S, A, C, F>(
     alloc: Global,
     read: ReadAuction,
     journal: NewJournal<D>,
     announcer: A,
-    bytes: Vec<u8>,
+    source: S,
     tell: F,
     connections: &mut C,
     count: u64,
-) -> (Result<(), ServerFault<C::Fault>>, EndedJournal<D>)
+) -> (
+    Result<(), ServerFault<C::Fault>>,
+    EndedJournal<D>,
+    Option<S>,
+)
 where
     D: Durable + Drop,
+    S: Source + Drop,
     A: Announcer + Drop,
     C: Listen,
     F: FnOnce(Recovered),
@@ -235,11 +258,13 @@ where
     requires taken { C.has_failed connections.old ≡ false }
     ensures read { ∥ ((document : List ℕ)
         × IsReadFrom document read.auction.front.setup journal.chain) ∥₁ }
-    ensures generation { (exchanges : List Exchange)
+    ensures generation { (exchanges : List Exchange) × (bytes : List ℕ)
+        × HasBytes (S.report source).left bytes
         × GrowsBy (C.closed connections.old) (C.closed connections.new) exchanges
         × Came (C.coming connections.old) (C.coming connections.new) (bytes_given exchanges)
-        × EndsGeneration read.auction.front.setup count exchanges bytes.items journal result.1
-        result.0 }
+        × EndsGeneration read.auction.front.setup count exchanges bytes journal result.1 result.0
+        × (result.0 ≡ Err (ServerFault.Start JournalFault.Unread) → (unread : S)
+        × (result.2 ≡ Some unread) × IsUnreadable (S.report source) (S.report unread) bytes) }
     ensures closed { C.offer connections.new ≡ None }
     ensures taken { result.0 ≡ Err (ServerFault.Serve ServeFault.Accept)
         → C.has_failed connections.new ≡ true }
@@ -250,29 +275,13 @@ where
         &mut auction,
         journal,
         announcer,
-        bytes,
+        source,
         tell,
         connections,
         count,
     );
     drop(auction);
     served
-}
-
-/// A machine that takes any text: with it, [`recover`] checks that a file is a journal.
-#[derive(Drop)]
-struct AnyText;
-
-impl Machine for AnyText {
-    ghost rules = { λ any. tt };
-
-    ghost stands_for = { λ any digest texts. Unit {0} };
-
-    ghost refuses = { λ rules texts text. ⊥ };
-
-    fn take(&mut self, _text: &[u8], _at: &Record) -> Result<(), TakeError> {
-        Ok(())
-    }
 }
 
 /// Puts the name of a file on the disk: syncs its folder.

@@ -12,6 +12,10 @@ pub mod Starting
 pub mod Lists
 pub mod OwnStarts
 pub mod Mirrored
+pub mod Brought
+pub mod Compared
+pub mod Leveled
 pub mod Pieces
 pub mod Taking
 pub mod Sourced
+pub mod Resumed

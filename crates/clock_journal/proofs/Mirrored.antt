@@ -1,18 +1,16 @@
 -- Two disks with the same bytes: what they have in common, and what a crash leaves of them.
-use Rattle.std.proofs.Common.{◌≡◌, ◌≤◌, ◌+◌, ◌-◌, ◌⊎◌, inl, inr, ℕ, Bool, false, List, [], ◌∷◌, ◌++◌, length}
+use Rattle.std.proofs.Common.{◌≡◌, ◌≤◌, ◌+◌, ◌⊎◌, inl, inr, ℕ, Bool, false, List, [], ◌∷◌, ◌++◌, length}
 use Rattle.std.proofs.Common.{take, Option, Some, None, refl, sym, ap, ◌∙◌, subst, arith, length-append}
 use Rattle.std.proofs.Common.{Result, Ok, Err}
-use Rattle.std.specs.Prelude.{◌||◌, OnErr, OnOk, drop, min, if◌then◌else◌, option_map}
-use Rattle.std.proofs.lemmas.List.{take_all, take_at, take-take, length-take, length-take-le, drop_all, length-drop}
-use Rattle.std.proofs.lemmas.List.{append-nil, take-append-drop}
+use Rattle.std.specs.Prelude.{◌||◌, OnErr, OnOk, if◌then◌else◌, option_map}
+use Rattle.std.proofs.lemmas.List.{take_all, take_at, take-take, length-take, length-take-le}
 use Rattle.std.proofs.lemmas.Bool.{cases_lt, or_parts}
-use Rattle.std.proofs.lemmas.List.Elements.{All-cons, All-nil}
 use Rattle.std.proofs.Math.Seq.{take-append-add}
 use Rattle.clock_device.specs.Streams.{HasWritten, HasWrittenFront, WritesText}
 use Rattle.clock_journal.specs.Disks.{CutsTo, MayBeLeft, Moment, Passes}
-use Rattle.clock_journal.specs.Mirrors.{DiskState, IsCommon, IsPartOf, IsPrefix, IsUnder, IsWithin}
+use Rattle.clock_journal.specs.Mirrors.{DiskState, IsPartOf, IsPrefix, IsUnder, IsWithin}
 use Rattle.clock_journal.specs.Mirrors.{LeftOfTwo, MirrorState, MirrorsKeep, RestUnder, RunUnder, RunsUnder, at_rest}
-use Rattle.clock_journal.specs.Mirrors.{IsOnWay, RunsTo, StartsKeep, joined, longer, shorter}
+use Rattle.clock_journal.specs.Mirrors.{StartsKeep, joined, longer, shorter}
 use Rattle.clock_journal.proofs.Moments.{all_is_front}
 use Rattle.clock_journal.proofs.Tested.{lt_true, lt_false}
 
@@ -41,7 +39,7 @@ by_length one all (count, is) =
           is ∙ ap (λ (k : ℕ). take k all) (sym size))
     ]
 
-prefix_of : (one mid all : List ℕ) → IsPrefix one mid → IsPrefix mid all → IsPrefix one all
+pub prefix_of : (one mid all : List ℕ) → IsPrefix one mid → IsPrefix mid all → IsPrefix one all
 prefix_of one mid all (count, is) (more, within) =
     let e : one ≡ take count (take more all) = is ∙ ap (take count) within in
     elim (cases_lt more count) [
@@ -117,7 +115,7 @@ front_part joint one left under part =
     prefix_of left under.written under.all
     (subst (λ (w : Option (List ℕ)). IsPartOf left w) under.has_written part) under.front
 
-some_is : (known : Option (List ℕ)) (one other : List ℕ) → known ≡ Some one → known ≡ Some other → one ≡ other
+pub some_is : (known : Option (List ℕ)) (one other : List ℕ) → known ≡ Some one → known ≡ Some other → one ≡ other
 some_is known one other is same = let e : Some one ≡ Some other = sym is ∙ same in cc
 
 -- the moment at which both disks were under this one
@@ -206,7 +204,7 @@ known_new : (new : Option (List ℕ)) (w text : List ℕ) → HasWrittenFront (S
 known_new None w text front = absurd front.1
 known_new (Some ys) w text front = (front.0, ap Some front.1)
 
-known_front : (old new : Option (List ℕ)) (w text : List ℕ) → old ≡ Some w → HasWrittenFront old new text
+pub known_front : (old new : Option (List ℕ)) (w text : List ℕ) → old ≡ Some w → HasWrittenFront old new text
     → (count : ℕ) × (new ≡ Some (w ++ take count text))
 known_front old new w text is front =
     known_new new w text (subst (λ (known : Option (List ℕ)). HasWrittenFront known new text) is front)
@@ -215,7 +213,7 @@ known_all_new : (new : Option (List ℕ)) (w text : List ℕ) → HasWritten (So
 known_all_new None w text all = absurd all
 known_all_new (Some ys) w text all = ap Some all
 
-known_all : (old new : Option (List ℕ)) (w text : List ℕ) → old ≡ Some w → HasWritten old new text
+pub known_all : (old new : Option (List ℕ)) (w text : List ℕ) → old ≡ Some w → HasWritten old new text
     → new ≡ Some (w ++ text)
 known_all old new w text is all =
     known_all_new new w text (subst (λ (known : Option (List ℕ)). HasWritten known new text) is all)
@@ -225,13 +223,13 @@ pub text_front : {U E : Type 0} (old new : Option (List ℕ)) (text : List ℕ) 
 text_front old new text (Ok done) writes = all_is_front old new text writes
 text_front old new text (Err failed) writes = writes
 
-itself : (all : List ℕ) → IsPrefix all all
+pub itself : (all : List ℕ) → IsPrefix all all
 itself all = (length all, sym (take_all (length all) all (omega arith)))
 
-before_more : (w text : List ℕ) → IsPrefix w (w ++ text)
+pub before_more : (w text : List ℕ) → IsPrefix w (w ++ text)
 before_more w text = (length w, sym (take_at w text (length w) refl))
 
-before_rest : (w text : List ℕ) (count : ℕ) → IsPrefix (w ++ take count text) (w ++ text)
+pub before_rest : (w text : List ℕ) (count : ℕ) → IsPrefix (w ++ take count text) (w ++ text)
 before_rest w text count = (length w + count, sym (take-append-add w text count))
 
 -- what is known of a mirror whose calls have not failed, if contracts see its bytes
@@ -564,135 +562,3 @@ starts_keep synced bytes before behind first second one other (now, written, fro
     let left = left_by first synced bytes one on_disk (written ∙ ap Some whole) may in
     copies_keep synced bytes one other left
     (prefix_of other others bytes (subst (λ (w : Option (List ℕ)). IsPartOf other w) has part) within)
-
--- ---- a disk that is brought to all bytes
-
-twice_passed : (old mid new : Option (List Moment)) (first second : Moment)
-    → mid ≡ option_map (λ (moments : List Moment). first ∷ moments) old
-    → new ≡ option_map (λ (moments : List Moment). second ∷ moments) mid
-    → new ≡ option_map (λ (moments : List Moment). second ∷ (first ∷ moments)) old
-twice_passed None mid new first second one other =
-    other ∙ ap (option_map (λ (moments : List Moment). second ∷ moments)) one
-twice_passed (Some old) mid new first second one other =
-    other ∙ ap (option_map (λ (moments : List Moment). second ∷ moments)) one
-
-pub runs_one : (old new : DiskState) (bytes missing : List ℕ) → HasWrittenFront old.written new.written missing
-    → Passes old.moments new.moments old.synced new.written → RunsTo bytes (bytes ++ missing) old new
-runs_one old new bytes missing front passes is =
-    let part = known_front old.written new.written bytes missing is front in
-    let moment : Moment = record { synced = old.synced; written = new.written } in
-    let way : IsOnWay old.synced bytes (bytes ++ missing) moment = (
-      bytes ++ take part.0 missing,
-      part.1,
-      before_more bytes (take part.0 missing),
-      before_rest bytes missing part.0,
-      refl,
-    ) in (
-      moment ∷ [],
-      passes,
-      All-cons (IsOnWay old.synced bytes (bytes ++ missing)) moment [] way
-          (All-nil (IsOnWay old.synced bytes (bytes ++ missing))),
-    )
-
-pub runs_two : (old mid new : DiskState) (bytes missing : List ℕ) → HasWritten old.written mid.written missing
-    → mid.synced ≡ old.synced → Passes old.moments mid.moments old.synced mid.written
-    → Passes mid.moments new.moments mid.synced mid.written → RunsTo bytes (bytes ++ missing) old new
-runs_two old mid new bytes missing all same one other is =
-    let whole = known_all old.written mid.written bytes missing is all in
-    let first : Moment = record { synced = old.synced; written = mid.written } in
-    let second : Moment = record { synced = mid.synced; written = mid.written } in
-    let Way = IsOnWay old.synced bytes (bytes ++ missing) in
-    let first_way : Way first =
-    (bytes ++ missing, whole, before_more bytes missing, itself (bytes ++ missing), refl) in
-    let second_way : Way second =
-    (bytes ++ missing, whole, before_more bytes missing, itself (bytes ++ missing), same) in (
-      second ∷ (first ∷ []),
-      twice_passed old.moments mid.moments new.moments first second one other,
-      All-cons Way second (first ∷ []) second_way (All-cons Way first [] first_way (All-nil Way)),
-    )
-
--- written is what the append has written
-pub text_then : {U E : Type 0} (old mid new : Option (List ℕ)) (text : List ℕ) (result : Result U E)
-    → HasWritten old mid text → new ≡ mid → WritesText old new text result
-text_then old mid new text result all same = written_all old new text result
-    (subst (λ (now : Option (List ℕ)). HasWritten old now text) (sym same) all)
-
--- ---- two files that are brought to the same bytes
-
--- the bytes of a file from a place on, as the code reads them
-abbrev pub rest : List ℕ → ℕ → List ℕ
-rest file place = take (length file - place) (drop place file)
-
-rest_is : (file : List ℕ) (place : ℕ) → rest file place ≡ drop place file
-rest_is file place = take_all (length file - place) (drop place file) (omega (arith, length-drop place file))
-
--- what each file lacks makes it the longer one
-pub record Makes (one other : List ℕ) (place : ℕ) : Type 0 where
-  pub one_makes : one ++ rest other place ≡ longer one other
-  pub other_makes : other ++ rest one place ≡ longer one other
-  pub front : IsPrefix (shorter one other) (longer one other)
-
-pub makes_longer : (one other : List ℕ) (place : ℕ) → IsCommon one other place
-    → min (length one) (length other) ≤ place → Makes one other place
-makes_longer one other place common least =
-    let in_one = common.in_one in
-    let in_other = common.in_other in
-    elim (cases_lt (length one) (length other)) [
-      | inl less ↦ (let whole : place ≡ length one = omega (arith, in_one, least, less) in
-          let all : one ≡ take place other = sym (take_all place one (omega (arith, whole))) ∙ common.same in
-          let made : one ++ rest other place ≡ other = ap (λ (l : List ℕ). one ++ l) (rest_is other place)
-          ∙ (ap (λ (l : List ℕ). l ++ drop place other) all ∙ take-append-drop place other) in
-          let none : rest one place ≡ [] = rest_is one place ∙ drop_all place one (omega (arith, whole)) in
-          let other_made : other ++ rest one place ≡ other =
-          ap (λ (l : List ℕ). other ++ l) none ∙ append-nil other in
-          let passed = sym (lt_true (length one) (length other) less) in
-          record {
-            one_makes = subst (λ (b : Bool). one ++ rest other place ≡ (if b then other else one)) passed made;
-            other_makes = subst (λ (b : Bool). other ++ rest one place ≡ (if b then other else one)) passed other_made;
-            front = subst (λ (b : Bool). IsPrefix (if b then one else other) (if b then other else one)) passed
-                (place, all);
-          })
-      | inr more ↦ (let whole : place ≡ length other = omega (arith, in_other, least, more) in
-          let all : other ≡ take place one = sym (take_all place other (omega (arith, whole))) ∙ sym common.same in
-          let made : other ++ rest one place ≡ one = ap (λ (l : List ℕ). other ++ l) (rest_is one place)
-          ∙ (ap (λ (l : List ℕ). l ++ drop place one) all ∙ take-append-drop place one) in
-          let none : rest other place ≡ [] = rest_is other place ∙ drop_all place other (omega (arith, whole)) in
-          let one_made : one ++ rest other place ≡ one =
-          ap (λ (l : List ℕ). one ++ l) none ∙ append-nil one in
-          let passed = sym (lt_false (length one) (length other) more) in
-          record {
-            one_makes = subst (λ (b : Bool). one ++ rest other place ≡ (if b then other else one)) passed one_made;
-            other_makes = subst (λ (b : Bool). other ++ rest one place ≡ (if b then other else one)) passed made;
-            front = subst (λ (b : Bool). IsPrefix (if b then one else other) (if b then other else one)) passed
-                (place, all);
-          })
-    ]
-
-pub runs_all : (old new : DiskState) (bytes missing all : List ℕ) → bytes ++ missing ≡ all
-    → RunsTo bytes (bytes ++ missing) old new → RunsTo bytes all old new
-runs_all old new bytes missing all is runs = subst (λ (to : List ℕ). RunsTo bytes to old new) is runs
-
--- at the end, both have the same bytes, if contracts see them or see none
-pub made_alike : (one other missing lacking all : List ℕ) (old_first old_second first second first_synced
-    second_synced : Option (List ℕ)) → one ++ missing ≡ all → other ++ lacking ≡ all
-    → ((old_first ≡ Some one) × (old_second ≡ Some other)) ⊎ ((old_first ≡ None) × (old_second ≡ None))
-    → HasWritten old_first first missing → HasWritten old_second second lacking
-    → (old_first ≡ None → first ≡ None) → (old_second ≡ None → second ≡ None)
-    → first_synced ≡ first → second_synced ≡ second
-    → (first ≡ second) × (first_synced ≡ second_synced) × IsWithin first_synced first
-made_alike one other missing lacking all old_first old_second first second first_synced second_synced made other_made
-    have writes others unseen others_unseen now others_now =
-    let same : first ≡ second = elim have [
-      | inl seen ↦ (known_all old_first first one missing seen.0 writes ∙ (ap Some made
-          ∙ (sym (ap Some other_made) ∙ sym (known_all old_second second other lacking seen.1 others))))
-      | inr none ↦ (unseen none.0 ∙ sym (others_unseen none.1))
-    ] in (
-      same,
-      now ∙ (same ∙ sym others_now),
-      λ least whole is written. let e = ap length (some_is first least whole (sym now ∙ is) written) in
-          omega (arith, e),
-    )
-
-pub made_whole : (old new : Option (List ℕ)) (bytes missing all : List ℕ) → bytes ++ missing ≡ all
-    → HasWritten old new missing → old ≡ Some bytes → new ≡ Some all
-made_whole old new bytes missing all made writes is = known_all old new bytes missing is writes ∙ ap Some made

@@ -104,15 +104,4 @@ module _ (refuses : List (List ℕ) → List ℕ → Type 0) where
       absurd (no_text digest bytes found.0 found.1 part.1 found.2)
   own_starts digest bytes texts least fault.NoMemory fine leaves found = inl refl
   own_starts digest bytes texts least fault.Failed fine leaves found = absurd found
-
--- what is found under a premise that holds
-pub found_given : (Holds : Type 0) (refuses : List (List ℕ) → List ℕ → Type 0) (digest bytes : List ℕ)
-    (why : JournalFault) → IsFound (λ past text. Holds → refuses past text) digest bytes why → Holds
-    → IsFound refuses digest bytes why
-found_given Holds refuses digest bytes fault.Unknown found holds = found
-found_given Holds refuses digest bytes fault.Setup found holds = found
-found_given Holds refuses digest bytes (fault.Damaged place) found holds = found
-found_given Holds refuses digest bytes (fault.Refused place) found holds =
-    (found.0, found.1, found.2, found.3, found.4 holds)
-found_given Holds refuses digest bytes fault.NoMemory found holds = found
-found_given Holds refuses digest bytes fault.Failed found holds = found
+  own_starts digest bytes texts least fault.Unread fine leaves found = absurd found

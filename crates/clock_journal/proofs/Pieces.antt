@@ -1,24 +1,42 @@
 -- Bytes that were read of a source, piece by piece, and what they say of what comes next.
-use Rattle.std.proofs.Common.{◌≡◌, ◌∷◌, ◌++◌, ℕ, List, [], Option, Some, None, refl, sym, ap, ◌∙◌, subst, length, take}
-use Rattle.std.proofs.Common.{drop, arith, ◌≤◌, ◌<◌, ◌+◌, ◌-◌, ◌⊎◌, Bool, true, false, inl, inr, append-nil}
+use Rattle.std.proofs.Common.{◌≡◌, ◌++◌, ℕ, List, [], Option, Some, None, refl, sym, ap, ◌∙◌, subst, length, take}
+use Rattle.std.proofs.Common.{drop, arith, ◌≤◌, ◌<◌, ◌+◌, ◌⊎◌, Bool, true, false, inl, inr}
 use Rattle.std.proofs.Common.{get_or, bytes_eq, nat_lt, ◌==◌, length-append, length-drop}
 use Rattle.std.proofs.lemmas.Bool.{cases_lt}
-use Rattle.std.proofs.lemmas.List.{append_assoc, drop-append-le, get_or_past, length-take-le, take-append-le}
+use Rattle.std.proofs.lemmas.List.{drop-append-le, get_or_past, length-take-le, take-append-le}
 use Rattle.std.proofs.lemmas.List.{take-take, take_all, take_at}
 use Rattle.std.proofs.Math.Seq.{take-append-add}
 use Rattle.std.specs.Prelude.{MatchBool, IfOk, Result, Ok, Err, if◌then◌else◌}
 use Rattle.std.specs.Io.KnownBytes.{Consumes, Keeps}
 use borrow.Rule.Slice.PartMut.{post_of, put_mid}
+use Rattle.clock_device.specs.Reports.{SourceReport}
 use Rattle.clock_device.specs.Streams.{HasRead, IsReadOut}
 use Rattle.clock_device.proofs.Streams.{read_twice}
 use Rattle.clock_journal.specs.Format.{before_text, link, mark_length, most_text}
-use Rattle.clock_journal.specs.Reading.{Next, damaged, ended, is_marked, marked_length, next, torn, whole}
-use Rattle.clock_journal.specs.inside.Pieces.{AreBytes, IsAll, IsMore, IsRead, IsWhole}
+use Rattle.clock_journal.specs.Reading.{damaged, ended, is_marked, marked_length, next, torn, whole}
+use Rattle.clock_journal.specs.Sources.{IsBroken}
+use Rattle.clock_journal.specs.declared.recovery.JournalFault.{JournalFault}
+use Rattle.clock_journal.specs.inside.Pieces.{AreBytes, CountsOn, IsAll, IsMore, IsRead, IsUnread, IsWhole}
 use Rattle.clock_journal.proofs.Cuts.{marked_length-same, marked_same, sieve, some_left, torn_short}
 use Rattle.clock_journal.proofs.Tested.{above_where, eq_false, lt_false, not_less}
 use Rattle.clock_journal.proofs.Whole.{found, is_marked_of, marked_within}
 
 -- ---- reading
+
+pub counts_since : (before mid after : SourceReport) → CountsOn before mid → CountsOn mid after
+    → CountsOn before after
+counts_since before mid after on more = omega (arith, on, more)
+
+pub broken_since : (before mid after : SourceReport) → CountsOn before mid → IsBroken mid after
+    → IsBroken before after
+broken_since before mid after on (inl failed) = inl failed
+broken_since before mid after on (inr often) = inr (omega (arith, on, often))
+
+pub unread_since : (before mid after : SourceReport) (why : JournalFault) → CountsOn before mid
+    → IsUnread mid after why → IsUnread before after why
+unread_since before mid after why on (inl none) = inl none
+unread_since before mid after why on (inr broken) =
+    inr (broken.0, broken_since before mid after on broken.1)
 
 -- what an interrupted read left is read by the next one
 pub kept_read : (old mid new : Option (List ℕ)) (bytes : List ℕ) → Keeps old mid → Consumes mid new bytes

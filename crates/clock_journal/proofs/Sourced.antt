@@ -1,6 +1,6 @@
 -- What is recovered of a source, of which some records were read and taken.
 use Rattle.std.proofs.Common.{◌≡◌, ◌≤◌, ◌<◌, ◌+◌, ◌^◌, ◌++◌, ℕ, List, [], ◌∷◌, Option, Some, None, inl, inr, refl, sym}
-use Rattle.std.proofs.Common.{ap, ◌∙◌, subst, arith, length, take, drop, get_or, reverse, append-nil}
+use Rattle.std.proofs.Common.{ap, ◌∙◌, subst, arith, length, take, drop, reverse, append-nil}
 use Rattle.std.proofs.Common.{length-append, length-drop}
 use Rattle.std.proofs.lemmas.Bool.{cases_lt}
 use Rattle.std.proofs.lemmas.List.{append_assoc, drop_all, length-take-le, take-append-le, take_all}
@@ -10,7 +10,6 @@ use Rattle.clock_device.specs.Streams.{HasRead, IsReadOut}
 use Rattle.clock_device.proofs.Streams.{read_twice}
 use Rattle.clock_journal.specs.Crash.{IsEnd, IsFile}
 use Rattle.clock_journal.specs.Format.{Fits, before_text, head, last_link, link, record_of, records}
-use Rattle.clock_journal.specs.Logged.{file_of}
 use Rattle.clock_journal.specs.Reading.{Next, damaged, next, whole}
 use Rattle.clock_journal.specs.Recovering.{HasHead, HasSomeHead, IsFound, record_at}
 use Rattle.clock_journal.specs.Resuming.{NoneRefused}
@@ -18,14 +17,13 @@ use Rattle.clock_journal.specs.Sources.{HasBytes, IsNotRead}
 use Rattle.clock_journal.specs.declared.recovery.JournalFault.{JournalFault}
 use Rattle.clock_journal.specs.declared.recovery.JournalFault.TheVariants as fault
 use Rattle.clock_journal.specs.declared.recovery.Record.{Record}
-use Rattle.clock_journal.specs.declared.recovery.Recovered.{Recovered}
-use Rattle.clock_journal.specs.inside.Pieces.{HasWholeHead, IsOtherHead, IsReadOnWay, IsUnread, IsWhole}
+use Rattle.clock_journal.specs.inside.Pieces.{CountsOn, HasWholeHead, IsOtherHead, IsReadOnWay, IsUnread, IsWhole}
 use Rattle.clock_journal.proofs.Files.{file_head_length, kind, length-head}
 use Rattle.clock_journal.proofs.Lists.{many_bytes, reverse-push}
 use Rattle.clock_journal.proofs.Moments.{last_link-push, records-push}
 use Rattle.clock_journal.proofs.OwnStarts.{not_refused_push}
-use Rattle.clock_journal.proofs.Pieces.{damaged_more}
-use Rattle.clock_journal.proofs.Records.{length-record, next_record}
+use Rattle.clock_journal.proofs.Pieces.{broken_since, damaged_more}
+use Rattle.clock_journal.proofs.Records.{next_record}
 use Rattle.clock_journal.proofs.TakenOver.{has_head, long_head, other_head}
 use Rattle.clock_journal.proofs.Whole.{whole_fits, whole_record}
 
@@ -57,14 +55,14 @@ has_before (Some xs) (Some ys) bytes more read has = read ∙ ap (λ (b : List �
 
 -- the faults of reading
 pub unread_is : (refuses : List (List ℕ) → List ℕ → Type 0) (digest : List ℕ) (left : Option (List ℕ))
-    (after : SourceReport) (why : JournalFault) (before : List ℕ → List ℕ) → IsUnread after why
-    → (bytes : List ℕ) × HasBytes left bytes × IsNotRead refuses digest (before bytes) after why
-unread_is refuses digest left after why before (inl none) =
-    (rest_of left, has_any left, subst (IsNotRead refuses digest (before (rest_of left)) after) (sym none) tt)
-unread_is refuses digest left after why before (inr broken) = (
+    (old new : SourceReport) (why : JournalFault) (before : List ℕ → List ℕ) → IsUnread old new why
+    → (bytes : List ℕ) × HasBytes left bytes × IsNotRead refuses digest (before bytes) old new why
+unread_is refuses digest left old new why before (inl none) =
+    (rest_of left, has_any left, subst (IsNotRead refuses digest (before (rest_of left)) old new) (sym none) tt)
+unread_is refuses digest left old new why before (inr broken) = (
   rest_of left,
   has_any left,
-  subst (IsNotRead refuses digest (before (rest_of left)) after) (sym broken.0) (inl broken.1),
+  subst (IsNotRead refuses digest (before (rest_of left)) old new) (sym broken.0) (inl broken.1),
 )
 
 module _ (mid : List ℕ → List (List ℕ) → Type 0) (digest : List ℕ) (old left : Option (List ℕ)) (chain : List ℕ)
@@ -185,16 +183,31 @@ module _ (mid : List ℕ → List (List ℕ) → Type 0) (digest : List ℕ) (ol
 
 -- what is found under a premise that holds
 pub not_read_given : (Holds : Type 0) (refuses : List (List ℕ) → List ℕ → Type 0) (digest bytes : List ℕ)
-    (after : SourceReport) (why : JournalFault)
-    → IsNotRead (λ past text. Holds → refuses past text) digest bytes after why → Holds
-    → IsNotRead refuses digest bytes after why
-not_read_given Holds refuses digest bytes after fault.Unknown found holds = found
-not_read_given Holds refuses digest bytes after fault.Setup found holds = found
-not_read_given Holds refuses digest bytes after (fault.Damaged place) found holds = found
-not_read_given Holds refuses digest bytes after (fault.Refused place) found holds =
+    (before after : SourceReport) (why : JournalFault)
+    → IsNotRead (λ past text. Holds → refuses past text) digest bytes before after why → Holds
+    → IsNotRead refuses digest bytes before after why
+not_read_given Holds refuses digest bytes before after fault.Unknown found holds = found
+not_read_given Holds refuses digest bytes before after fault.Setup found holds = found
+not_read_given Holds refuses digest bytes before after (fault.Damaged place) found holds = found
+not_read_given Holds refuses digest bytes before after (fault.Refused place) found holds =
     (found.0, found.1, found.2, found.3, found.4 holds)
-not_read_given Holds refuses digest bytes after fault.NoMemory found holds = found
-not_read_given Holds refuses digest bytes after fault.Failed found holds = found
+not_read_given Holds refuses digest bytes before after fault.NoMemory found holds = found
+not_read_given Holds refuses digest bytes before after fault.Failed found holds = found
+not_read_given Holds refuses digest bytes before after fault.Unread found holds = found
+
+-- what is found by reads after others
+pub not_read_since : (refuses : List (List ℕ) → List ℕ → Type 0) (digest bytes : List ℕ)
+    (before mid after : SourceReport) (why : JournalFault) → CountsOn before mid
+    → IsNotRead refuses digest bytes mid after why → IsNotRead refuses digest bytes before after why
+not_read_since refuses digest bytes before mid after fault.Unknown on found = found
+not_read_since refuses digest bytes before mid after fault.Setup on found = found
+not_read_since refuses digest bytes before mid after (fault.Damaged place) on found = found
+not_read_since refuses digest bytes before mid after (fault.Refused place) on found = found
+not_read_since refuses digest bytes before mid after fault.NoMemory on found = found
+not_read_since refuses digest bytes before mid after fault.Failed on found = found
+not_read_since refuses digest bytes before mid after fault.Unread on (inl broken) =
+    inl (broken_since before mid after on broken)
+not_read_since refuses digest bytes before mid after fault.Unread on (inr far) = inr far
 
 -- a fault of the head is a fault of all bytes
 has_no_head : (digest bytes more : List ℕ) → length digest ≡ 32 → file_head_length ≤ length bytes
@@ -211,14 +224,14 @@ has_some_head : (bytes more : List ℕ) → file_head_length ≤ length bytes �
 has_some_head bytes more long headed = has_head bytes long
     (sym (take-append-le (length kind) bytes more (omega (arith, long))) ∙ (other_head (bytes ++ more) headed).1)
 
-head_fault : (refuses : List (List ℕ) → List ℕ → Type 0) (digest bytes more : List ℕ) (after : SourceReport)
+head_fault : (refuses : List (List ℕ) → List ℕ → Type 0) (digest bytes more : List ℕ) (before after : SourceReport)
     (why : JournalFault) → length digest ≡ 32 → file_head_length ≤ length bytes
-    → IsOtherHead digest bytes why → IsNotRead refuses digest (bytes ++ more) after why
-head_fault refuses digest bytes more after fault.Unknown size long found = (
+    → IsOtherHead digest bytes why → IsNotRead refuses digest (bytes ++ more) before after why
+head_fault refuses digest bytes more before after fault.Unknown size long found = (
   has_no_head digest bytes more size long found.0,
   λ headed. found.1 (has_some_head bytes more long headed),
 )
-head_fault refuses digest bytes more after fault.Setup size long found =
+head_fault refuses digest bytes more before after fault.Setup size long found =
     let headed = found.1 in (
       has_no_head digest bytes more size long found.0,
       (
@@ -229,19 +242,21 @@ head_fault refuses digest bytes more after fault.Setup size long found =
             ∙ append_assoc (head headed.0) headed.1 more,
       ),
     )
-head_fault refuses digest bytes more after (fault.Damaged place) size long found = absurd found
-head_fault refuses digest bytes more after (fault.Refused place) size long found = absurd found
-head_fault refuses digest bytes more after fault.NoMemory size long found = absurd found
-head_fault refuses digest bytes more after fault.Failed size long found = absurd found
+head_fault refuses digest bytes more before after (fault.Damaged place) size long found = absurd found
+head_fault refuses digest bytes more before after (fault.Refused place) size long found = absurd found
+head_fault refuses digest bytes more before after fault.NoMemory size long found = absurd found
+head_fault refuses digest bytes more before after fault.Failed size long found = absurd found
+head_fault refuses digest bytes more before after fault.Unread size long found = absurd found
 
-short_fault : (refuses : List (List ℕ) → List ℕ → Type 0) (digest bytes : List ℕ) (after : SourceReport)
-    (why : JournalFault) → IsOtherHead digest bytes why → IsNotRead refuses digest bytes after why
-short_fault refuses digest bytes after fault.Unknown found = found
-short_fault refuses digest bytes after fault.Setup found = found
-short_fault refuses digest bytes after (fault.Damaged place) found = absurd found
-short_fault refuses digest bytes after (fault.Refused place) found = absurd found
-short_fault refuses digest bytes after fault.NoMemory found = absurd found
-short_fault refuses digest bytes after fault.Failed found = absurd found
+short_fault : (refuses : List (List ℕ) → List ℕ → Type 0) (digest bytes : List ℕ) (before after : SourceReport)
+    (why : JournalFault) → IsOtherHead digest bytes why → IsNotRead refuses digest bytes before after why
+short_fault refuses digest bytes before after fault.Unknown found = found
+short_fault refuses digest bytes before after fault.Setup found = found
+short_fault refuses digest bytes before after (fault.Damaged place) found = absurd found
+short_fault refuses digest bytes before after (fault.Refused place) found = absurd found
+short_fault refuses digest bytes before after fault.NoMemory found = absurd found
+short_fault refuses digest bytes before after fault.Failed found = absurd found
+short_fault refuses digest bytes before after fault.Unread found = absurd found
 
 -- all bytes, of which the first were read, and no byte is left
 pub all_of : (old left : Option (List ℕ)) (bytes : List ℕ) → HasRead old left bytes → IsReadOut left
@@ -251,20 +266,20 @@ all_of old left bytes read out = subst (HasBytes old)
 
 -- another head was read
 pub head_not_read : (refuses : List (List ℕ) → List ℕ → Type 0) (digest bytes : List ℕ) (old left : Option (List ℕ))
-    (after : SourceReport) (why : JournalFault) → length digest ≡ 32 → HasRead old left bytes
+    (before after : SourceReport) (why : JournalFault) → length digest ≡ 32 → HasRead old left bytes
     → (length bytes < file_head_length → IsReadOut left) → IsOtherHead digest bytes why
-    → (all : List ℕ) × HasBytes old all × IsNotRead refuses digest all after why
-head_not_read refuses digest bytes old left after why size read out found =
+    → (all : List ℕ) × HasBytes old all × IsNotRead refuses digest all before after why
+head_not_read refuses digest bytes old left before after why size read out found =
     elim (cases_lt (length bytes) file_head_length) [
       | inl short ↦ (
         bytes,
         all_of old left bytes read (out short),
-        short_fault refuses digest bytes after why found,
+        short_fault refuses digest bytes before after why found,
       )
       | inr long ↦ (
         bytes ++ rest_of left,
         has_read old left bytes read,
-        head_fault refuses digest bytes (rest_of left) after why size long found,
+        head_fault refuses digest bytes (rest_of left) before after why size long found,
       )
     ]
 
@@ -277,6 +292,7 @@ other_found refuses digest bytes (fault.Damaged place) found = absurd found
 other_found refuses digest bytes (fault.Refused place) found = absurd found
 other_found refuses digest bytes fault.NoMemory found = absurd found
 other_found refuses digest bytes fault.Failed found = absurd found
+other_found refuses digest bytes fault.Unread found = absurd found
 
 -- a buffer that was filled with a whole head
 pub whole_head : (digest buffer : List ℕ) (count : ℕ) → count ≤ length buffer → length buffer ≡ file_head_length

@@ -1,14 +1,13 @@
 -- What a crash leaves while a journal is resumed from a file, or begins in it: by cases on the moments of the calls.
 use Rattle.std.proofs.Common.{◌≡◌, ◌≤◌, ◌<◌, ◌+◌, inl, inr, ◌++◌, ℕ, List, [], Option, Some, None, length, take}
-use Rattle.std.proofs.Common.{Result, Ok, Err, OnOk}
-use Rattle.std.specs.Result.{result_or}
+use Rattle.std.proofs.Common.{Result, Ok, Err}
 use Rattle.std.proofs.Common.{refl, sym, ap, ◌∙◌, subst, arith, length-append}
 use Rattle.std.specs.Prelude.{option_map}
 use Rattle.std.proofs.lemmas.List.{append-nil, take_all, length-take, length-take-le}
 use Rattle.std.proofs.lemmas.Bool.{cases_lt}
 use Rattle.std.proofs.lemmas.List.Elements.{All-nil}
 use Rattle.clock_device.specs.Streams.{HasWrittenFront, WritesText}
-use Rattle.clock_journal.specs.Disks.{CutsTo, LeaveOnly, MayBeLeft, Moment, Passes}
+use Rattle.clock_journal.specs.Disks.{LeaveOnly, MayBeLeft, Moment, Passes}
 use Rattle.clock_journal.specs.Format.{head, Fits}
 use Rattle.clock_journal.specs.Logged.{JournalState, file_of}
 use Rattle.clock_journal.specs.Reading.{Next}
@@ -176,19 +175,14 @@ none_first digest bytes texts read recovered size nowhere begins placed =
 
 -- ---- a start, moment by moment
 
--- a result whose error was mapped, and that is `Ok`, was `Ok` before
-was_ok : {T E D : Type 0} (result : Result T E) (other : D) (value : T) → Ok value ≡ result_or result (Err other)
-    → result ≡ Ok value
-was_ok (Ok given) other value is = cc
-was_ok (Err refused) other value is = absurd (cc)
+pub sized : (at now : JournalState) → at ≡ now → length at.chain ≡ 32 → length now.chain ≡ 32
+sized at now view size = subst (λ (one : JournalState). length one.chain ≡ 32) view size
 
 -- a file that is truncated to nothing is empty
-pub emptied : {U E D : Type 0} (old mid new : Option (List ℕ)) (bytes : List ℕ) (place : ℕ) (end : Result U E)
-    (other : D) (done : U) → Ok done ≡ result_or end (Err other) → CutsTo mid new place end → mid ≡ old → place ≡ 0
-    → old ≡ Some bytes → new ≡ Some []
-emptied old mid new bytes place end other done fine cuts same nowhere is =
-    subst (λ (e : Result _ _). CutsTo mid new place e) (was_ok end other done fine) cuts
-    ∙ (ap (option_map (take place)) (same ∙ is) ∙ ap (λ (n : ℕ). Some (take n bytes)) nowhere)
+pub emptied : (old mid new : Option (List ℕ)) (bytes : List ℕ) (place : ℕ) → new ≡ option_map (take place) mid
+    → mid ≡ old → place ≡ 0 → old ≡ Some bytes → new ≡ Some []
+emptied old mid new bytes place cuts same nowhere is =
+    cuts ∙ (ap (option_map (take place)) (same ∙ is) ∙ ap (λ (n : ℕ). Some (take n bytes)) nowhere)
 
 written_front : {U E : Type 0} (old new : Option (List ℕ)) (text : List ℕ) (end : Result U E)
     → WritesText old new text end → HasWrittenFront old new text
@@ -235,16 +229,19 @@ module _ {D : Type 0} (disk : Ghosts D) (at now : JournalState) (view : at ≡ n
   pub stays_synced : Stays now bytes on_disk (disk.moments first) Leaves
   stays_synced = subst (λ (one : JournalState). Stays one bytes on_disk (disk.moments first) Leaves) view synced_there
 
-  module _ {U E F : Type 0} (end : Result U E) (other : F) (done : U) (fine : Ok done ≡ result_or end (Err other))
-      (all : OnOk end (disk.synced first ≡ at.written)) (still : disk.written first ≡ at.written)
-      (recovered : Recovered) (lasts : Lasts at.chain bytes recovered (Leaves at.chain)) (cut : D)
+  module _ (all : disk.synced first ≡ at.written) (still : disk.written first ≡ at.written)
+      (recovered : Recovered) (lasts : Lasts now.chain bytes recovered (Leaves now.chain)) (cut : D)
       (cuts : Passes (disk.moments first) (disk.moments cut) (option_map (take recovered.end) (disk.synced first))
       (disk.written first)) where
+    lasts_there : Lasts at.chain bytes recovered (Leaves at.chain)
+    lasts_there =
+        subst (λ (one : JournalState). Lasts one.chain bytes recovered (Leaves one.chain)) (sym view) lasts
+
     cut_there : Stays at bytes on_disk (disk.moments cut) Leaves
     cut_there is same before = through_cut at.moments (disk.moments first) (disk.moments cut) at.synced at.written
         (disk.synced first) (disk.written first) bytes recovered.end (Leaves at.chain) passes before cuts
-        (subst (λ (e : Result U E). OnOk e (disk.synced first ≡ at.written)) (was_ok end other done fine) all) still is
-        (λ left may. lasts.cut left (before bytes (now_left at.synced at.written on_disk bytes same is)) may)
+        all still is
+        (λ left may. lasts_there.cut left (before bytes (now_left at.synced at.written on_disk bytes same is)) may)
 
     -- after the truncation
     pub stays_cut : Stays now bytes on_disk (disk.moments cut) Leaves
@@ -259,7 +256,7 @@ module _ {D : Type 0} (disk : Ghosts D) (at now : JournalState) (view : at ≡ n
           → ((left : List ℕ) → MayBeLeft at.synced at.written left → Leaves at.chain left)
           → (one : Option (List ℕ)) (left : List ℕ) → MayBeLeft one (disk.written begun) left → Leaves at.chain left
       begun_leaves is same before one left may =
-          lasts.anew left nowhere (before bytes (now_left at.synced at.written on_disk bytes same is))
+          lasts_there.anew left nowhere (before bytes (now_left at.synced at.written on_disk bytes same is))
           (head_reads at.chain text (disk.written cut) one (disk.written begun) size (empty is) text_is
           (written_front (disk.written cut) (disk.written begun) text how writes) left may)
 

@@ -51,3 +51,4 @@ IsFound refuses digest bytes (fault.Refused place) = (texts : List (List ℕ)) �
     × (place ≡ length (file_of digest texts)) × refuses (reverse texts) text
 IsFound refuses digest bytes fault.NoMemory = Unit {0}
 IsFound refuses digest bytes fault.Failed = ⊥
+IsFound refuses digest bytes fault.Unread = ⊥

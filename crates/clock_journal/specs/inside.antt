@@ -2,3 +2,4 @@
 pub mod Replays
 pub mod Shown
 pub mod Pieces
+pub mod Leveling

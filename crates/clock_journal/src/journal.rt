@@ -1,16 +1,19 @@
-ghost use Rattle.std.specs.Prelude.{◌≡◌, [], List, ℕ, IfErr, IfOk, OnOk, OnErr, Some, false};
-ghost use Rattle.std.specs.Prelude.{is_err, reverse, MatchResult};
+ghost use Rattle.std.specs.Prelude.{◌≡◌, [], List, ℕ, IfOk, OnOk, OnErr, Some, false, is_err};
+ghost use Rattle.std.specs.Prelude.{MatchResult};
 ghost use Rattle.clock_journal.specs.Format.{Fits, link};
 ghost use Rattle.clock_journal.specs.Logged.{HasTexts, IsAppended, JournalState};
-ghost use Rattle.clock_journal.specs.Crash.{BeginsWithTexts, LeavesJournal, LeavesOneMore, StaysSo};
+ghost use Rattle.clock_journal.specs.Crash.{LeavesOneMore};
 ghost use Rattle.clock_journal.specs.{Chain.{ChainBinds, JournalsBind}, Recovering.{AreTextsOf}};
 ghost use Rattle.clock_journal.specs.Laws.{EveryFront, ReadsBack, WhateverFollows};
-ghost use Rattle.clock_journal.specs.Resuming.{IsLeftBy, IsNotRefused, IsNotResumed, NoneRefused};
+ghost use Rattle.clock_journal.specs.Resuming.{DoesNotResume, LeavesWhatWas, Resumes};
+ghost use Rattle.clock_journal.specs.Sources.{HasBytes};
 
 use crate::durable::Durable;
 use crate::format::{Link, front_of, head_of, link_of};
-use crate::recovery::{JournalFault, Machine, Recovered, recover_first};
-use clock_device::Failed;
+use crate::reading::recover_first;
+use crate::recovery::{JournalFault, Machine, Recovered};
+use clock_device::{Failed, Source};
+use std::alloc::Global;
 use std::marker::Model;
 
 /// A journal on a disk. Only [`NewJournal::resume`] makes one.
@@ -85,111 +88,83 @@ impl<D: Durable> NewJournal<D> {
         NewJournal { journal }
     }
 
-    /// Replays `bytes`, which are all bytes of the disk, with `machine`, like [`recover`].
-    /// Continues the journal there: syncs the file, and truncates what is torn. On an empty file,
-    /// or one with a torn head, it begins the journal. Calls `tell` before the disk is changed.
+    /// Replays a source with `machine`, like [`recover_from`](crate::recover_from). The source has
+    /// all bytes of the disk, and is read record by record. Continues the journal there: syncs the
+    /// file, and truncates what is torn. On an empty file, or one with a torn head, it begins the
+    /// journal. Calls `tell` before the disk is changed.
     ///
-    /// - `ok`: the machine took all texts of the file, and refuses none of them.
-    /// - `own`: on what a crash left of a journal with no text that the machine refuses, it fails
-    ///   only if memory runs out or a call of the disk fails.
-    /// - `left`: at `Failed`, a call of the disk failed; at any other fault, the disk is unchanged.
-    /// - `moments`, `crash`, `any_tail`: if a crash before this call leaves these texts, so does a
-    ///   crash at any moment of the call, also at `Err`.
+    /// All is said of the bytes that the source has. If it reports them, they are `bytes`.
+    ///
+    /// - `Ok`: the machine took all texts of the file, and refuses none of them. If `bytes` are all
+    ///   bytes of the disk, it has these texts.
+    /// - `Err`: on what a crash left of a journal with no text that the machine refuses, it fails
+    ///   only if memory runs out, a call of the disk fails, or the source cannot be read. At
+    ///   `Failed`, a call of the disk failed; at any other fault, the disk is unchanged. At
+    ///   `Unread`, a read failed, or was interrupted too often, or there are 2^64 bytes or more.
+    /// - If a crash before this call leaves the journal of some texts, or a file that begins with
+    ///   it, so does a crash at any moment of the call, also at `Err`.
     ///
     /// Requires a machine without texts, and a disk of which no call has failed. Errors, in this
-    /// order: as [`recover`]; `Failed`. Do not use the machine after an `Err`.
-    pub fn resume<M: Machine, F: FnOnce(Recovered)>(
+    /// order: as [`recover_from`](crate::recover_from); `Failed`. Do not use the machine after an
+    /// `Err`.
+    pub fn resume<M: Machine, S: Source, F: FnOnce(Recovered)>(
         self,
+        alloc: Global,
         machine: &mut M,
-        bytes: &[u8],
+        source: &mut S,
         tell: F,
     ) -> Result<(Journal<D>, Recovered), (JournalFault, EndedJournal<D>)>
         requires fresh { M.stands_for machine.old self.chain [] }
         requires unfailed { self.has_failed ≡ false }
         requires callable { F.IsAlwaysCallable tell }
-        ensures ok { IfOk result (λ made. (texts : List (List ℕ))
-            × AreTextsOf self.chain bytes.now texts made.1
-            × M.stands_for machine.new self.chain (reverse texts)
-            × NoneRefused (M.refuses (M.rules machine.old)) [] texts
-            × (self.written ≡ Some bytes.now → HasTexts self.chain texts made.0)) }
-        ensures err { IfErr result (λ left. IsNotResumed (M.refuses (M.rules machine.old))
-            (M.stands_for machine.new self.chain) self.chain bytes.now left.0) }
-        ensures own { (texts : List (List ℕ)) (least : ℕ)
-            → NoneRefused (M.refuses (M.rules machine.old)) [] texts
-            → LeavesJournal self.chain bytes.now texts least
-            → IfErr result (λ left. IsNotRefused left.0) }
-        ensures left { IfErr result (λ left. IsLeftBy self left.1 left.0) }
-        ensures moments { (synced : List ℕ) (texts : List (List ℕ)) (least : ℕ)
-            → self.written ≡ Some bytes.now → self.synced ≡ Some synced
-            → IfOk result (λ made. StaysSo self made.0
-            (λ left. LeavesJournal self.chain left texts least)) }
-        ensures crash { (synced : List ℕ) (texts : List (List ℕ)) (least : ℕ)
-            → self.written ≡ Some bytes.now → self.synced ≡ Some synced
-            → IfErr result (λ ended. StaysSo self ended.1
-            (λ left. LeavesJournal self.chain left texts least)) }
-        ensures any_tail { (synced : List ℕ) (texts : List (List ℕ))
-            → self.written ≡ Some bytes.now → self.synced ≡ Some synced
-            → MatchResult result
-            (λ made. StaysSo self made.0 (λ left. BeginsWithTexts self.chain left texts))
-            (λ ended. StaysSo self ended.1 (λ left. BeginsWithTexts self.chain left texts)) }
+        ensures resumed { (bytes : List ℕ) × HasBytes (S.report source.old).left bytes
+            × MatchResult result
+            (λ made. Resumes (M.refuses (M.rules machine.old)) (M.stands_for machine.new self.chain)
+            bytes self made.0 made.1)
+            (λ ended. DoesNotResume (M.refuses (M.rules machine.old))
+            (M.stands_for machine.new self.chain) bytes self ended.1 (S.report source.old)
+            (S.report source.new) ended.0) }
         ensures chain { IfOk result (λ made. made.0.chain ≡ made.1.chain) }
         ensures unfailed { IfOk result (λ made. made.0.has_failed ≡ false) }
         ensures rules { M.rules machine.new ≡ M.rules machine.old }
     {
         let mut journal = self.journal;
-        match journal.start(machine, bytes, tell) {
-            Ok(recovered) => Ok((journal, recovered)),
-            Err(fault) => Err((fault, EndedJournal { journal })),
+        let recovered = match recover_first(alloc, machine, &journal.chain, source) {
+            Ok(recovered) => recovered,
+            Err(fault) => return Err((fault, EndedJournal { journal })),
+        };
+        tell(recovered);
+        match journal.start(&recovered) {
+            Ok(()) => Ok((journal, recovered)),
+            Err(Failed) => Err((JournalFault::Failed, EndedJournal { journal })),
         }
     }
 }
 
 impl<D: Durable> Journal<D> {
-    /// Resumes a journal that has only its disk, and the digest of its set-up document.
-    fn start<M: Machine, F: FnOnce(Recovered)>(
-        &mut self,
-        machine: &mut M,
-        bytes: &[u8],
-        tell: F,
-    ) -> Result<Recovered, JournalFault>
-        requires fresh { M.stands_for machine.old self.old.chain [] }
+    /// Continues the journal of a file, of which this was recovered, after its last text. The
+    /// journal has only its disk, and the digest of its set-up document.
+    fn start(&mut self, recovered: &Recovered) -> Result<(), Failed>
         requires unfailed { self.old.has_failed ≡ false }
-        requires callable { F.IsAlwaysCallable tell }
-        ensures ok { IfOk result (λ recovered. (texts : List (List ℕ))
-            × AreTextsOf self.old.chain bytes.now texts recovered
-            × M.stands_for machine.new self.old.chain (reverse texts)
-            × NoneRefused (M.refuses (M.rules machine.old)) [] texts
-            × (self.old.written ≡ Some bytes.now → HasTexts self.old.chain texts self.new)) }
-        ensures err { IfErr result (IsNotResumed (M.refuses (M.rules machine.old))
-            (M.stands_for machine.new self.old.chain) self.old.chain bytes.now) }
-        ensures own { (texts : List (List ℕ)) (least : ℕ)
-            → NoneRefused (M.refuses (M.rules machine.old)) [] texts
-            → LeavesJournal self.old.chain bytes.now texts least → IfErr result IsNotRefused }
-        ensures left { IfErr result (IsLeftBy self.old self.new) }
-        ensures crash { (synced : List ℕ) (texts : List (List ℕ)) (least : ℕ)
-            → self.old.written ≡ Some bytes.now → self.old.synced ≡ Some synced
-            → StaysSo self.old self.new
-            (λ left. LeavesJournal self.old.chain left texts least) }
-        ensures any_tail { (synced : List ℕ) (texts : List (List ℕ))
-            → self.old.written ≡ Some bytes.now → self.old.synced ≡ Some synced
-            → StaysSo self.old self.new (λ left. BeginsWithTexts self.old.chain left texts) }
-        ensures chain { IfOk result (λ recovered. self.new.chain ≡ recovered.chain) }
-        ensures unfailed { OnOk result (self.new.has_failed ≡ false) }
-        ensures rules { M.rules machine.new ≡ M.rules machine.old }
+        ensures ok { OnOk result ((bytes : List ℕ) (texts : List (List ℕ))
+            → AreTextsOf self.old.chain bytes texts recovered.now
+            → self.old.written ≡ Some bytes → HasTexts self.old.chain texts self.new) }
+        ensures leaves { (bytes : List ℕ) (texts : List (List ℕ))
+            → AreTextsOf self.old.chain bytes texts recovered.now
+            → LeavesWhatWas bytes self.old self.new }
+        ensures chain { OnOk result (self.new.chain ≡ recovered.now.chain) }
+        ensures failed { self.new.has_failed ≡ is_err result }
     {
-        let recovered = recover_first(machine, &self.chain, bytes)?;
-        tell(recovered);
         // only synced bytes survive a crash during the truncation
-        self.disk.sync().or(Err(JournalFault::Failed))?;
-        self.disk.cut(recovered.end).or(Err(JournalFault::Failed))?;
+        self.disk.sync()?;
+        self.disk.cut(recovered.end)?;
         if recovered.end == 0 {
             let head = head_of(&self.chain);
-            self.disk.append(&head).or(Err(JournalFault::Failed))?;
-            self.disk.sync().or(Err(JournalFault::Failed))?;
+            self.disk.append(&head)?;
+            self.disk.sync()?;
         }
-        let chain = recovered.chain;
-        self.chain = chain;
-        Ok(recovered)
+        self.chain = recovered.chain;
+        Ok(())
     }
 
     /// Appends a text. At `Ok`, it is on the disk and survives a crash. At `Err`, it may be there

@@ -1,15 +1,18 @@
 //! Two disks that are one, so that the loss of either loses nothing.
-ghost use Rattle.std.specs.Prelude.{◌≡◌, ◌||◌, ◌⊎◌, ◌++◌, List, ℕ, IfErr, OnErr, OnOk, None, Some};
-ghost use Rattle.std.specs.Prelude.{false, is_err, option_map, take};
-ghost use Rattle.clock_device.specs.Streams.{WritesText};
+ghost use Rattle.std.specs.Prelude.{◌≡◌, ◌≤◌, ◌||◌, ◌++◌, List, ℕ, IfErr, IfOk, OnErr, OnOk, None};
+ghost use Rattle.std.specs.Prelude.{Some, false, is_err, length, option_map, take};
+ghost use Rattle.clock_device.specs.Streams.{HasWritten, WritesText};
 ghost use Rattle.clock_journal.specs.Disks.{CutsTo, Passes};
 ghost use Rattle.clock_journal.specs.Mirrors.{IsCommon, IsPrefix, IsWithin, MirrorState};
 ghost use Rattle.clock_journal.specs.Mirrors.{MirrorsKeep, RestUnder, RunUnder, RunsTo, StartsKeep};
 ghost use Rattle.clock_journal.specs.Mirrors.{joined, longer, shorter};
-ghost use Rattle.clock_journal.specs.Levels.{IsNotLevel};
+ghost use Rattle.clock_journal.specs.Levels.{AreSeen, Bytes, IsNotLevel};
+ghost use Rattle.clock_journal.specs.inside.Leveling.{Differ, HaveEnds};
+ghost use Rattle.clock_journal.specs.Sources.{HasBytes};
 
 use crate::durable::Durable;
-use clock_device::Failed;
+use crate::reading::fill;
+use clock_device::{Failed, Source};
 use std::marker::Model;
 
 /// Two disks with the same bytes. Each call is made on the first, and then on the second; the first
@@ -134,14 +137,24 @@ impl<A: Durable, B: Durable> Durable for Mirror<A, B> {
     }
 }
 
+/// How many bytes of a file are compared and copied at once.
+const PIECE: usize = 4096;
+
 /// Why two files are no mirror.
 ///
 /// - `Differs`: neither is a prefix of the other, and at this byte they differ.
-/// - `Failed`: a call of a disk failed.
+/// - `Failed`: a call of a disk failed, or a source could not be read.
 #[derive(Clone, Copy, Debug, PartialEq, Eq)]
 pub enum LevelFault {
     Differs(usize),
     Failed,
+}
+
+/// How many bytes of two pieces were read.
+#[derive(Clone, Copy)]
+struct Counts {
+    here: usize,
+    there: usize,
 }
 
 /// Returns how many bytes two files have in common at their start.
@@ -157,14 +170,59 @@ fn common_of(one: &[u8], other: &[u8]) -> usize
     most
 }
 
-/// Appends what a disk lacks, perhaps nothing, and syncs it.
-fn extend<D: Durable>(disk: &mut D, missing: &[u8]) -> Result<(), Failed>
+/// Reads two sources piece by piece until one has no byte left. The last pieces are in `here` and
+/// `there`; all before them are the same in both.
+///
+/// Requires pieces of one length, at least 1. Errors, at whichever comes first: `Differs`;
+/// `Failed`.
+fn compare<S: Source, T: Source>(
+    one: &mut S,
+    other: &mut T,
+    here: &mut [u8],
+    there: &mut [u8],
+) -> Result<Counts, LevelFault>
+    requires alike { length here.old ≡ length there.old }
+    requires some { 1 ≤ length here.old }
+    ensures ok { IfOk result (λ counts. HaveEnds (S.report one.old).left (S.report one.new).left
+        (T.report other.old).left (T.report other.new).left (take counts.here here.new)
+        (take counts.there there.new)) }
+    ensures within { IfOk result (λ counts. (counts.here ≤ length here.new)
+        × (counts.there ≤ length there.new)) }
+    ensures err { IfErr result (Differ (S.report one.old).left (T.report other.old).left) }
+{
+    let mut place: usize = 0;
+    loop {
+        let Ok(count) = fill(one, here) else {
+            return Err(LevelFault::Failed);
+        };
+        let Ok(limit) = fill(other, there) else {
+            return Err(LevelFault::Failed);
+        };
+        let common = common_of(&here[..count], &there[..limit]);
+        if common > usize::MAX - place {
+            return Err(LevelFault::Failed);
+        }
+        if common < count.min(limit) {
+            return Err(LevelFault::Differs(place + common));
+        }
+        if count < here.len() || limit < there.len() {
+            let (here, there) = (count, limit);
+            return Ok(Counts { here, there });
+        }
+        place += common;
+    }
+}
+
+/// Appends what a disk lacks, perhaps nothing: `missing`, and all that a source has. Syncs it.
+fn extend<D: Durable, S: Source>(disk: &mut D, missing: &[u8], source: &mut S) -> Result<(), Failed>
     requires unfailed { D.has_failed disk.old ≡ false }
     ensures unseen { D.written disk.old ≡ None → D.written disk.new ≡ None }
-    ensures written { WritesText (D.written disk.old) (D.written disk.new) missing.now result }
+    ensures ok { OnOk result ((rest : List ℕ) × HasBytes (S.report source.old).left rest
+        × HasWritten (D.written disk.old) (D.written disk.new) (missing.now ++ rest)) }
     ensures synced { OnOk result (D.synced disk.new ≡ D.written disk.new) }
-    ensures failed { D.has_failed disk.new ≡ is_err result }
-    ensures moments { (bytes : List ℕ) → RunsTo bytes (bytes ++ missing.now)
+    ensures unfailed { OnOk result (D.has_failed disk.new ≡ false) }
+    ensures moments { (rest : List ℕ) × HasBytes (S.report source.old).left rest
+        × ((bytes : List ℕ) → RunsTo bytes (bytes ++ (missing.now ++ rest))
         (record {
           written = D.written disk.old;
           synced = D.synced disk.old;
@@ -175,73 +233,89 @@ fn extend<D: Durable>(disk: &mut D, missing: &[u8]) -> Result<(), Failed>
           synced = D.synced disk.new;
           has_failed = D.has_failed disk.new;
           moments = D.moments disk.new;
-        }) }
+        })) }
 {
     disk.append(missing)?;
-    disk.sync()
+    let mut piece = [0; PIECE];
+    let mut copied: usize = 0;
+    loop {
+        let count = fill(source, &mut piece)?;
+        disk.append(&piece[..count])?;
+        if count < PIECE {
+            return disk.sync();
+        }
+        if count > usize::MAX - copied {
+            return Err(Failed);
+        }
+        copied += count;
+    }
 }
 
-/// Brings the shorter of two files up to the longer one, and syncs both. `one` and `other` are all
-/// bytes of the two disks.
+/// Brings the shorter of two files up to the longer one, and syncs both. `one` and `other` are
+/// sources of all bytes of the two disks, which are read piece by piece.
+///
+/// For the bytes of the two sources, `one` and `other`:
 ///
 /// - `ok`: both disks have the longer file, all of it synced, so that [`Mirror::new`] takes them.
 /// - `first`, `second`: at each moment of the call, also at `Err`, a disk has its old bytes, and
 ///   perhaps a prefix of what the other file has in addition.
 ///
-/// Requires that no call of the disks has failed. Errors, in this order: `Differs`, with both disks
-/// unchanged; `Failed`.
-pub fn level<A: Durable, B: Durable>(
+/// Requires that no call of the disks has failed. Errors, at whichever comes first: `Differs`, with
+/// both disks unchanged; `Failed`.
+pub fn level<A: Durable, B: Durable, S: Source, T: Source>(
     first: &mut A,
     second: &mut B,
-    one: &[u8],
-    other: &[u8],
+    one: &mut S,
+    other: &mut T,
 ) -> Result<(), LevelFault>
     requires first { A.has_failed first.old ≡ false }
     requires second { B.has_failed second.old ≡ false }
-    requires bytes { ((A.written first.old ≡ Some one.now) × (B.written second.old
-        ≡ Some other.now)) ⊎ ((A.written first.old ≡ None) × (B.written second.old ≡ None)) }
+    requires bytes { AreSeen (A.written first.old) (B.written second.old) (S.report one.old).left
+        (T.report other.old).left }
     ensures alike { OnOk result ((A.written first.new ≡ B.written second.new)
         × (A.synced first.new ≡ B.synced second.new)
         × IsWithin (A.synced first.new) (A.written first.new)) }
-    ensures ok { OnOk result (IsPrefix (shorter one.now other.now) (longer one.now other.now)
-        × (A.written first.old ≡ Some one.now
-        → A.written first.new ≡ Some (longer one.now other.now))) }
     ensures unfailed { OnOk result ((A.has_failed first.new ≡ false)
         × (B.has_failed second.new ≡ false)) }
-    ensures err { IfErr result (IsNotLevel one.now other.now (first.new ≡ first.old)
-        (second.new ≡ second.old)) }
-    ensures first { RunsTo one.now (longer one.now other.now) (record {
-      written = A.written first.old;
-      synced = A.synced first.old;
-      has_failed = A.has_failed first.old;
-      moments = A.moments first.old;
-    }) (record {
-      written = A.written first.new;
-      synced = A.synced first.new;
-      has_failed = A.has_failed first.new;
-      moments = A.moments first.new;
-    }) }
-    ensures second { RunsTo other.now (longer one.now other.now) (record {
-      written = B.written second.old;
-      synced = B.synced second.old;
-      has_failed = B.has_failed second.old;
-      moments = B.moments second.old;
-    }) (record {
-      written = B.written second.new;
-      synced = B.synced second.new;
-      has_failed = B.has_failed second.new;
-      moments = B.moments second.new;
-    }) }
+    ensures bytes { (bytes : Bytes (S.report one.old).left (T.report other.old).left)
+        × OnOk result (IsPrefix (shorter bytes.one bytes.other) (longer bytes.one bytes.other)
+        × (A.written first.old ≡ Some bytes.one
+        → A.written first.new ≡ Some (longer bytes.one bytes.other)))
+        × IfErr result (IsNotLevel bytes.one bytes.other (first.new ≡ first.old)
+        (second.new ≡ second.old))
+        × RunsTo bytes.one (longer bytes.one bytes.other) (record {
+          written = A.written first.old;
+          synced = A.synced first.old;
+          has_failed = A.has_failed first.old;
+          moments = A.moments first.old;
+        }) (record {
+          written = A.written first.new;
+          synced = A.synced first.new;
+          has_failed = A.has_failed first.new;
+          moments = A.moments first.new;
+        })
+        × RunsTo bytes.other (longer bytes.one bytes.other) (record {
+          written = B.written second.old;
+          synced = B.synced second.old;
+          has_failed = B.has_failed second.old;
+          moments = B.moments second.old;
+        }) (record {
+          written = B.written second.new;
+          synced = B.synced second.new;
+          has_failed = B.has_failed second.new;
+          moments = B.moments second.new;
+        }) }
 {
-    let common = common_of(one, other);
-    let most = one.len().min(other.len());
-    if common < most {
-        return Err(LevelFault::Differs(common));
-    }
-    let Ok(()) = extend(first, &other[common..]) else {
+    let (mut here, mut there) = ([0; PIECE], [0; PIECE]);
+    let counts = match compare(one, other, &mut here, &mut there) {
+        Ok(counts) => counts,
+        Err(fault) => return Err(fault),
+    };
+    let common = counts.here.min(counts.there);
+    let Ok(()) = extend(first, &there[common..counts.there], other) else {
         return Err(LevelFault::Failed);
     };
-    let Ok(()) = extend(second, &one[common..]) else {
+    let Ok(()) = extend(second, &here[common..counts.here], one) else {
         return Err(LevelFault::Failed);
     };
     Ok(())

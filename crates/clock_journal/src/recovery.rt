@@ -79,9 +79,10 @@ pub struct Recovered {
 /// - `Damaged`: at this place it has what no crash leaves.
 /// - `Refused`: the machine refuses the text whose record begins at this place.
 /// - `NoMemory`: the machine is out of memory.
-/// - `Failed`: a call of the disk failed, after all texts were taken, or the source could not be
-///   read. Only [`NewJournal::resume`](crate::NewJournal::resume) and
-///   [`recover_from`](crate::recover_from) return it.
+/// - `Failed`: a call of the disk failed, after all texts were taken. Only
+///   [`NewJournal::resume`](crate::NewJournal::resume) returns it.
+/// - `Unread`: the source could not be read: a read failed, was interrupted too often, or went
+///   beyond 2^64 bytes. Only `resume` and [`recover_from`](crate::recover_from) return it.
 #[derive(Clone, Copy, Debug, PartialEq, Eq)]
 pub enum JournalFault {
     Unknown,
@@ -90,6 +91,7 @@ pub enum JournalFault {
     Refused(usize),
     NoMemory,
     Failed,
+    Unread,
 }
 
 /// Gives a machine all texts of a file, in order, each with its record. `digest` is that of the
@@ -149,23 +151,6 @@ pub fn recover<M: Machine>(
             }
         }
     }
-}
-
-/// The same, for a machine without texts.
-pub(crate) fn recover_first<M: Machine>(
-    machine: &mut M,
-    digest: &Link,
-    bytes: &[u8],
-) -> Result<Recovered, JournalFault>
-    requires { M.stands_for machine.old digest.now [] }
-    ensures ok { IfOk result (λ recovered. (texts : List (List ℕ))
-        × AreTextsOf digest.now bytes.now texts recovered
-        × M.stands_for machine.new digest.now (reverse texts)
-        × NoneRefused (M.refuses (M.rules machine.old)) [] texts) }
-    ensures err { IfErr result (IsFound (M.refuses (M.rules machine.old)) digest.now bytes.now) }
-    ensures rules { M.rules machine.new ≡ M.rules machine.old }
-{
-    recover(machine, digest, bytes)
 }
 
 /// Returns whether a file has the whole head of the journal of the set-up document with this

@@ -39,8 +39,8 @@ IsWithinTests changes end = end.tests ≤ length changes + end.applied * most_wo
 abbrev pub IsWithinReads : List Change → SettledFields → ℕ → Type 0
 IsWithinReads changes end reads = reads ≤ 3 * (length changes + end.applied)
 
--- The applications are at most the blocks that all requests ask for, less those that were not
--- applied.
+-- An application takes at least one block. So the applications are at most the blocks that all
+-- requests ask for, less those that were not applied.
 abbrev pub IsWithinBlocks : List Change → SettledFields → Type 0
 IsWithinBlocks changes end =
     end.applied + sum end.left ≤ sum_by (λ (change : Change). change.amount) changes

@@ -5,7 +5,7 @@
 mod costs;
 mod lines;
 mod queue;
-mod requests;
+mod woken;
 
-pub use queue::{Woken, law_of_tests, settle_by_queue};
-pub use requests::{Reads, Requests};
+pub use queue::{law_of_tests, settle_by_queue};
+pub use woken::{Reads, Requests, Woken};

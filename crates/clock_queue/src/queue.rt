@@ -13,39 +13,18 @@ ghost use Rattle.clock_queue.specs.inside.Queue.{StaysWithinReads, StaysWithinTe
 ghost use Rattle.clock_queue.specs.inside.Queue.{line_in, room_in};
 
 use crate::lines::{Ready, WaitingLines, bidder_line, line_of, product_line, with_lines_for};
-use crate::requests::{Reads, Requests};
+use crate::woken::{Reads, Requests};
 use clock_device::NoMemory;
-use clock_processor::{Board, Processor, Settled};
-use clock_terms::{Amounts, Change, Changes, Kind, MOST_UNITS};
+use clock_processor::{Board, Settled};
+use clock_terms::{Amounts, Change, Kind, MOST_UNITS};
 use std::alloc::Global;
 
-/// The event queue. It tests each request when it admits it, and at most two requests after each
-/// application.
+/// Processes the requests as [`Woken`](crate::Woken) says, and counts how often it reads one: at
+/// most three times for each request, and three times for each application. Requires a counter at
+/// 0.
 ///
-/// The two are the first request that waits for the product, and the first that waits for the
-/// bidder and costs at most its unused eligibility. They are enough. Either all reductions of a
-/// product have room or none has. A bidder's increase has room if a block of it costs at most the
-/// unused eligibility, which the board returns when it applies a request.
-#[derive(Clone, Copy, Debug, Default)]
-pub struct Woken;
-
-impl Processor for Woken {
-    /// Processes the requests as [`Processor::settle`] says. Makes at most one test for each
-    /// request, and at most two for each application. If no product and no bidder has two requests,
-    /// an application causes at most one test.
-    fn settle(&self, alloc: Global, board: Board, changes: &Changes) -> Result<Settled, NoMemory>
-        requires { CanSettle board changes.now }
-        ensures settlement { IfOk result (λ settled. IsSettlement board.entry changes.now settled) }
-        ensures proper { IfOk result (λ settled. IsProperEnd board.entry changes.now settled) }
-        ensures tests { IfOk result (λ settled. IsWithinTests changes.now settled) }
-    {
-        let (requests, mut reads) = Requests::counted(changes);
-        settle_by_queue(alloc, board, &requests, &mut reads)
-    }
-}
-
-/// Processes the requests as [`Woken`] says, and counts how often it reads one: at most three times
-/// for each request, and three times for each application. Requires a counter at 0.
+/// An application takes at least one block. So the number of blocks that all requests ask for
+/// bounds the number of applications.
 pub fn settle_by_queue(
     alloc: Global,
     board: Board,
@@ -84,9 +63,9 @@ pub fn settle_by_queue(
     }
 }
 
-/// Proves two simpler bounds from that of [`Woken`]: for each application at most two tests, and at
-/// most m, if no product and no bidder has more than m requests. Does nothing when it runs: its
-/// contract is the law.
+/// Proves two simpler bounds from that of [`Woken`](crate::Woken): for each application at most two
+/// tests, and at most m, if no product and no bidder has more than m requests. Does nothing when it
+/// runs: its contract is the law.
 pub fn law_of_tests()
     ensures { BoundsEachLine }
 {}

@@ -3,8 +3,11 @@
 ghost use Rattle.std.specs.Prelude.{◌≡◌, IfSome, IsTrue, false};
 
 use crate::comparing::{assert_is, assert_is_at};
+use clock_device::{ListSource, Stop};
 use clock_fixtures::{Count, MemoryDisk};
-use clock_journal::{Durable, FileDisk, Journal, JournalFault, Link, NewJournal, recover};
+use clock_journal::{
+    Durable, EndedJournal, FileDisk, Journal, JournalFault, Link, NewJournal, recover,
+};
 use std::alloc::Global;
 use std::fs::{self, File, OpenOptions};
 use std::io::Write;
@@ -23,12 +26,19 @@ fn taken(bytes: &[u8], setup: &Link) -> Result<(u64, usize), JournalFault> {
     }
 }
 
-/// Resumes the journal of these bytes, which are all bytes of a disk, or begins it.
-fn begun<D: Durable + Drop>(disk: D, bytes: &[u8]) -> Option<Journal<D>>
+/// Resumes the journal of these bytes, which are all bytes of a disk, or begins it. Reads at most
+/// `piece` bytes at a time.
+fn begun<D: Durable + Drop>(
+    alloc: Global,
+    disk: D,
+    bytes: &[u8],
+    piece: usize,
+) -> Option<Journal<D>>
     requires { D.has_failed disk ≡ false }
     ensures { IfSome result (λ journal. journal.has_failed ≡ false) }
 {
-    match NewJournal::new(disk, SETUP).resume(&mut Count(0), bytes, |_recovered| {}) {
+    let mut source = ListSource::new(bytes, piece.max(1), None);
+    match NewJournal::new(disk, SETUP).resume(alloc, &mut Count(0), &mut source, |_recovered| {}) {
         Ok((journal, _recovered)) => Some(journal),
         Err((_fault, ended)) => {
             drop(ended);
@@ -61,7 +71,7 @@ fn bytes_if(alloc: Global, journal: &Journal<MemoryDisk>, is_taken: bool) -> Vec
 /// The bytes of a journal of three requests of 5, 3, and 4 bytes on a disk of `room` bytes: 56 of
 /// the head, and 45, 43, and 44 of records. None if a request was not appended.
 fn file(alloc: Global, room: usize) -> Vec<u8> {
-    let Some(mut journal) = begun(MemoryDisk::new(alloc, room, 100), b"") else {
+    let Some(mut journal) = begun(alloc, MemoryDisk::new(alloc, room, 100), b"", 1) else {
         return Vec::new(alloc);
     };
     let is_taken = takes_two(&mut journal) && journal.append(b"last").is_ok();
@@ -155,14 +165,14 @@ fn a_full_disk_is_reported(rt: HostRuntime) {
     }
 }
 
-/// Resumes a journal of these bytes on a disk of its own, and appends a request. None if it is not
-/// appended.
-fn resumed(alloc: Global, bytes: &[u8]) -> Vec<u8> {
+/// Resumes a journal of these bytes on a disk of its own, and appends a request. Reads at most
+/// `piece` bytes at a time. None if it is not appended.
+fn resumed(alloc: Global, bytes: &[u8], piece: usize) -> Vec<u8> {
     let mut disk = MemoryDisk::new(alloc, 1000, 100);
     if disk.append(bytes).is_err() {
         return Vec::new(alloc);
     }
-    let Some(mut journal) = begun(disk, bytes) else {
+    let Some(mut journal) = begun(alloc, disk, bytes, piece) else {
         return Vec::new(alloc);
     };
     let is_taken = journal.append(b"more").is_ok();
@@ -183,18 +193,64 @@ fn whole_after(length: usize) -> (u64, usize) {
 }
 
 /// Asserts that each prefix of the file is resumed and appended to.
-fn fronts_go_on(rt: &impl Abort, alloc: Global, bytes: &[u8]) {
+fn fronts_go_on(rt: &impl Abort, alloc: Global, bytes: &[u8], piece: usize) {
     for length in 0..=188usize {
         let front = bytes.get(..length).unwrap_or(b"a shorter file");
-        let more = resumed(alloc, front);
+        let more = resumed(alloc, front, piece);
         assert_is_at(rt, length, taken(&more, &SETUP), Ok(whole_after(length)));
     }
 }
 
+/// Bytes of a read: one, few, or all of the file.
+const PIECES: &[usize] = &[1, 7, 188];
+
 #[test]
 fn each_front_goes_on(rt: HostRuntime) {
     let bytes = file(rt.alloc(), 1000);
-    fronts_go_on(&rt, rt.alloc(), bytes.as_slice());
+    for piece in PIECES {
+        fronts_go_on(&rt, rt.alloc(), bytes.as_slice(), *piece);
+    }
+}
+
+/// A journal on a disk in memory that was not resumed, and why.
+type NotResumed = (JournalFault, EndedJournal<MemoryDisk>);
+
+/// Resumes a journal of these bytes on a disk of its own. The read with this index, from 0, fails.
+/// `None` if it is resumed all the same.
+fn not_resumed(alloc: Global, bytes: &[u8], read: u64) -> Option<NotResumed> {
+    let mut disk = MemoryDisk::new(alloc, 1000, 100);
+    if disk.append(bytes).is_err() {
+        return None;
+    }
+    let mut source = ListSource::new(bytes, 7, Some((read, Stop::Failed)));
+    match NewJournal::new(disk, SETUP).resume(alloc, &mut Count(0), &mut source, |_recovered| {}) {
+        Ok((journal, _recovered)) => {
+            drop(journal);
+            None
+        }
+        Err(ended) => Some(ended),
+    }
+}
+
+/// Asserts that a source that fails at this read is reported, and the disk unchanged.
+fn failed_read_changes_nothing(rt: &impl Abort, alloc: Global, bytes: &[u8], read: u64) {
+    match not_resumed(alloc, bytes, read) {
+        Some((fault, ended)) => {
+            assert_is_at(rt, read, fault, JournalFault::Unread);
+            assert_is_at(rt, read, ended.disk().bytes(), bytes);
+            drop(ended);
+        }
+        None => assert_is_at(rt, read, "not resumed", "resumed"),
+    }
+}
+
+/// The file is read in 30 reads: 8 for the head, 7 for each record, and one that finds the end.
+#[test]
+fn each_failed_read_is_reported(rt: HostRuntime) {
+    let bytes = file(rt.alloc(), 1000);
+    for read in 0..30 {
+        failed_read_changes_nothing(&rt, rt.alloc(), bytes.as_slice(), read);
+    }
 }
 
 const PATH: &str = "clock_journal.trial";
@@ -207,11 +263,11 @@ fn opened(rt: &HostRuntime) -> Option<File> {
 }
 
 /// Begins a journal in a file and appends two requests. Returns whether it did.
-fn is_written(file: Option<File>) -> bool {
+fn is_written(alloc: Global, file: Option<File>) -> bool {
     let Some(file) = file else {
         return false;
     };
-    let Some(mut journal) = begun(FileDisk::new(file), b"") else {
+    let Some(mut journal) = begun(alloc, FileDisk::new(file), b"", 1) else {
         return false;
     };
     let is_taken = takes_two(&mut journal);
@@ -274,7 +330,7 @@ fn cuts(file: Option<File>) -> Option<u64> {
 #[test]
 fn a_file_is_taken_over(rt: HostRuntime) {
     let _ = fs::remove_file(&rt, PATH);
-    assert_is_at(&rt, "written", is_written(opened(&rt)), true);
+    assert_is_at(&rt, "written", is_written(rt.alloc(), opened(&rt)), true);
     assert_is_at(&rt, "written", found(&rt), TWO);
     assert_is_at(&rt, "locked", is_locked(&rt), (true, false));
     assert_is_at(&rt, "torn", tears(opened(&rt)), true);

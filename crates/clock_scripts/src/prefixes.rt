@@ -38,7 +38,7 @@ impl Model for BidPrefix {
 
 impl BidPrefix {
     /// Makes the text for a product at a price. Writes it into an array from its end to its start.
-    #[inline(never)]
+    #[inline(always)]
     fn new(product: u64, price: u64) -> BidPrefix
         ensures product { result.product ≡ product }
         ensures price { result.price ≡ price }
@@ -97,20 +97,13 @@ impl BidPrefixes {
         }
     }
 
-    /// Makes the text for a product at a price. May return `NoMemory`.
+    /// Makes the list long enough for a product. May return `NoMemory`.
     #[cold]
-    fn make(&mut self, product: u64, price: u64) -> Result<(), NoMemory> {
-        let place = product as usize;
-        for blank in self.list.len()..place {
-            self.list.push(BidPrefix::new(blank as u64, 0))?;
+    fn reach(&mut self, product: u64) -> Result<(), NoMemory> {
+        for blank in self.list.len() as u64..product {
+            self.list.push(BidPrefix::new(blank, 0))?;
         }
-        let prefix = BidPrefix::new(product, price);
-        if place < self.list.len() {
-            self.list[place] = prefix;
-        } else {
-            self.list.push(prefix)?;
-        }
-        Ok(())
+        Ok(self.list.push(BidPrefix::new(product, 0))?)
     }
 
     /// Appends a bid as [`push_bid`] does, from the text for its product and price.
@@ -136,7 +129,7 @@ impl BidPrefixes {
     }
 
     /// Like [`BidPrefixes::push_bid`], for the first bid at a price: makes the text for later ones.
-    #[cold]
+    #[inline(never)]
     fn push_first_bid(
         &mut self,
         text: &mut Vec<u8>,
@@ -148,11 +141,12 @@ impl BidPrefixes {
             (Adds (bid_text (bid_for product quantity price)) text.old.items text.new.items) }
     {
         if quantity < 10 {
-            self.make(product, price)?;
-            if let Some(made) = self.list.get(product as usize) {
-                if made.is_for(product, price) {
-                    return made.push_bid(text, quantity);
-                }
+            if product >= self.list.len() as u64 {
+                self.reach(product)?;
+            }
+            if let Some(kept) = self.list.get_mut(product as usize) {
+                *kept = BidPrefix::new(product, price);
+                return kept.push_bid(text, quantity);
             }
         }
         push_bid(text, product, quantity, price)

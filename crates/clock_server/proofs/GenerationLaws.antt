@@ -14,7 +14,7 @@ use Rattle.clock_journal.proofs.Files.{some_head}
 use Rattle.clock_journal.proofs.Starting.{now_left}
 use Rattle.clock_journal.proofs.TakenOver.{left_first}
 use Rattle.clock_journal.specs.Recovering.{AreTextsOf}
-use Rattle.clock_journal.specs.Resuming.{NoneRefused}
+use Rattle.clock_journal.specs.Resuming.{NoneRefused, Resumes}
 use Rattle.clock_journal.specs.declared.recovery.Recovered.{Recovered}
 use Rattle.clock_journal.proofs.OwnStarts.{not_refused_take}
 use Rattle.clock_server.specs.Accepted.{IsOwnFile}
@@ -116,17 +116,10 @@ all_left digest bytes texts recovered those = elim those.end_is [
   | inr torn ↦ inr (ap length torn.1, torn.0)
 ]
 
--- the texts of the file, which the auction stands for, and none of which it refuses; all are on the disk, if contracts
--- see its bytes
-abbrev pub IsResumed : SetupFields → List ℕ → List ℕ → Option (List ℕ) → JournalState → HouseFields → Recovered
-    → Type 0
-IsResumed setup digest bytes written journal house recovered = (texts : List (List ℕ))
-    × AreTextsOf digest bytes texts recovered × StandsForTexts (reverse texts) house
-    × NoneRefused (IsRefused setup) [] texts × (written ≡ Some bytes → HasTexts digest texts journal)
-
+-- the auction stands for the texts of the bytes
 module _ (setup : SetupFields) (found first : JournalState) (bytes : List ℕ) (old : HouseFields) (same : old.setup
-    ≡ setup) (recovered : Recovered) (resumes : IsResumed setup found.chain bytes found.written first old
-    recovered) (chained : first.chain ≡ recovered.chain) where
+    ≡ setup) (recovered : Recovered) (resumes : Resumes (IsRefused setup) (λ texts. StandsForTexts texts old) bytes
+    found first recovered) (chained : first.chain ≡ recovered.chain) where
   -- from texts that the house stands for
   module _ (exchanges : List Exchange) (rounds : Option (List ℕ)) (before last : JournalState) (house : HouseFields)
       (unlogged : Option Exchange) (are : AreServed exchanges None rounds first before old house) (ends_so : EndsSo
@@ -157,16 +150,16 @@ module _ (setup : SetupFields) (found first : JournalState) (bytes : List ℕ) (
       (house : HouseFields) (unlogged : Option Exchange) → AreServed exchanges None rounds first before old house
       → EndsSo setup before house unlogged last → ServesFile setup bytes exchanges unlogged found last
   serves exchanges rounds before last house unlogged are ends_so = record {
-    texts = resumes.0;
-    file = all_left found.chain bytes resumes.0 recovered resumes.1;
-    accepted = resumes.3;
-    serves = from exchanges rounds before last house unlogged are ends_so resumes.0 resumes.2;
-    chained = chained ∙ resumes.1.chain_is;
+    texts = resumes.texts;
+    file = all_left found.chain bytes resumes.texts recovered resumes.are;
+    accepted = resumes.accepted;
+    serves = from exchanges rounds before last house unlogged are ends_so resumes.texts resumes.taken;
+    chained = chained ∙ resumes.are.chain_is;
     generation = λ written texts least synced is own.
-        let those = left_first found.chain bytes resumes.0 texts least recovered resumes.1
+        let those = left_first found.chain bytes resumes.texts texts least recovered resumes.are
         (own_left setup found.chain texts least found synced bytes is written own) in
-        let has = subst (λ (all : List (List ℕ)). HasTexts found.chain all first) those.3 (resumes.4 written) in
-        let stands = subst (λ (all : List (List ℕ)). StandsForTexts (reverse all) old) those.3 resumes.2 in
+        let has = subst (λ (all : List (List ℕ)). HasTexts found.chain all first) those.3 (resumes.has written) in
+        let stands = subst (λ (all : List (List ℕ)). StandsForTexts (reverse all) old) those.3 resumes.taken in
         record {
           count = those.0;
           enough = those.1;

@@ -2,7 +2,8 @@
 -- words: a generation is what one server does with a journal's file, from its start until it ends.
 -- Take any list of generations. The first one starts on an empty file, and each later one on what a
 -- crash may have left of the one before.
--- - No start is refused. It fails only if memory runs out or a call of the disk fails.
+-- - No start is refused. It fails only if memory runs out, a call of the disk fails, or the file
+--   cannot be read.
 -- - Each start resumes with every text that was logged when the generation before ended, and with
 --   at most one more. It was accepted, but a call of the disk failed when it was to be logged. Its
 --   connection was the last one, and got no reply.
@@ -88,8 +89,8 @@ pub record ServesFrom (setup : SetupFields) (digest : List ℕ) (texts : List (L
   pub has : HasTexts digest (take count texts) serves.resumed
   pub own : IsOwnFile setup digest (serves.last.texts ++ serves.more) (length serves.last.texts) end
 
--- if it found its own file: it serves from the first of these texts. Or its start failed for memory
--- or the disk, and what a crash left since is a file of these texts
+-- if it found its own file: it serves from the first of these texts. Or its start failed for
+-- memory, the disk, or reading, and what a crash left since is a file of these texts
 abbrev pub IsGeneration : SetupFields → List ℕ → Generation → Type 0
 IsGeneration setup digest (failed found fault end) =
     (texts : List (List ℕ)) (least : ℕ) (synced : List ℕ) → found.synced ≡ Some synced

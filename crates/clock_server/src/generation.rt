@@ -1,6 +1,8 @@
 //! One generation of a server: it replays the texts of its journal, and serves.
-ghost use Rattle.std.specs.Prelude.{◌≡◌, [], ◌∷◌, List, ℕ, Err, IfOk, None, Ok, OnOk, true, false};
+ghost use Rattle.std.specs.Prelude.{◌≡◌, [], ◌∷◌, List, ℕ, Err, IfOk, None, Ok, OnOk, Some};
+ghost use Rattle.std.specs.Prelude.{true, false};
 ghost use Rattle.clock_terms.specs.Limits.{SetupFields};
+ghost use Rattle.clock_journal.specs.Sources.{HasBytes, IsUnreadable};
 ghost use Rattle.clock_front.specs.{Effects.{effect as effect_of}, Fronts.{StandsForTexts}};
 ghost use Rattle.clock_server.specs.Keeping.{GrowsBy, IsAccepted, IsRefused};
 ghost use Rattle.clock_server.specs.inside.NotTaken.{not_taken_by};
@@ -11,6 +13,7 @@ ghost use Rattle.clock_server.specs.MirroredGenerations.{MirroredGenerationsCont
 use crate::acceptor::Listen;
 use crate::request_log::{Announced, Announcer};
 use crate::serving::{ServeFault, serve_all};
+use clock_device::Source;
 use clock_front::{Effect, Front};
 use clock_http::{Code, frame};
 use clock_journal::{
@@ -87,31 +90,38 @@ pub enum ServerFault<E> {
 
 /// Runs one generation of a server: resumes the journal of a file with [`NewJournal::resume`],
 /// listens for connections, and serves `count` of them with [`serve_all`]. The program serves with
-/// this call. `bytes` are all bytes of the file. They are freed before it listens. Returns the
-/// journal as it ended, too.
+/// this call. `source` has all bytes of the file. It is read record by record, so at most one
+/// record is in memory, and dropped before the server listens. Returns the journal as it ended,
+/// too, and the source if the journal could not be resumed.
 ///
 /// If the file is what a crash left of this auction's journal, the start is not refused, and each
 /// reply is the right one after the logged texts. What a crash leaves after that is this auction's
-/// journal again. [`law_of_generations`] says what follows for any number of crashes.
+/// journal again. [`law_of_generations`] says what follows for any number of crashes. All this is
+/// said of the bytes that the source has, which are `bytes` if it reports them.
 ///
 /// Requires an auction without texts, a journal that has not failed, and connections of which none
 /// is open and none has failed.
 ///
 /// Errors: `Start`, `Listen`, or `Serve`, of the first of these calls that fails. Do not use the
 /// auction afterward.
-pub fn serve_from<P, D, A, C, F>(
+pub fn serve_from<P, D, S, A, C, F>(
     alloc: Global,
     auction: &mut ReplayedAuction<P>,
     journal: NewJournal<D>,
     announcer: A,
-    bytes: Vec<u8>,
+    mut source: S,
     tell: F,
     connections: &mut C,
     count: u64,
-) -> (Result<(), ServerFault<C::Fault>>, EndedJournal<D>)
+) -> (
+    Result<(), ServerFault<C::Fault>>,
+    EndedJournal<D>,
+    Option<S>,
+)
 where
     P: Processor,
     D: Durable + Drop,
+    S: Source + Drop,
     A: Announcer + Drop,
     C: Listen,
     F: FnOnce(Recovered),
@@ -120,28 +130,29 @@ where
     requires callable { F.IsAlwaysCallable tell }
     requires closed { C.offer connections.old ≡ None }
     requires taken { C.has_failed connections.old ≡ false }
-    ensures generation { (exchanges : List Exchange)
+    ensures generation { (exchanges : List Exchange) × (bytes : List ℕ)
+        × HasBytes (S.report source).left bytes
         × GrowsBy (C.closed connections.old) (C.closed connections.new) exchanges
         × Came (C.coming connections.old) (C.coming connections.new) (bytes_given exchanges)
-        × EndsGeneration auction.old.front.setup count exchanges bytes.items journal result.1
-        result.0 }
+        × EndsGeneration auction.old.front.setup count exchanges bytes journal result.1 result.0
+        × (result.0 ≡ Err (ServerFault.Start JournalFault.Unread) → (read : S)
+        × (result.2 ≡ Some read) × IsUnreadable (S.report source) (S.report read) bytes) }
     ensures closed { C.offer connections.new ≡ None }
     ensures taken { result.0 ≡ Err (ServerFault.Serve ServeFault.Accept)
         → C.has_failed connections.new ≡ true }
 {
-    let resumed = journal.resume(auction, bytes.as_slice(), tell);
-    drop(bytes);
-    let (journal, recovered) = match resumed {
+    let (journal, recovered) = match journal.resume(alloc, auction, &mut source, tell) {
         Ok(made) => made,
-        Err((fault, ended)) => return (Err(ServerFault::Start(fault)), ended),
+        Err((fault, ended)) => return (Err(ServerFault::Start(fault)), ended, Some(source)),
     };
+    drop(source);
     if let Err(fault) = connections.listen(recovered) {
-        return (Err(ServerFault::Listen(fault)), journal.end());
+        return (Err(ServerFault::Listen(fault)), journal.end(), None);
     }
     let mut log = Announced { journal, announcer };
     match serve_all(alloc, &mut auction.front, &mut log, connections, count) {
-        Ok(()) => (Ok(()), log.end()),
-        Err(fault) => (Err(ServerFault::Serve(fault)), log.end()),
+        Ok(()) => (Ok(()), log.end(), None),
+        Err(fault) => (Err(ServerFault::Serve(fault)), log.end(), None),
     }
 }
 

@@ -4,12 +4,13 @@
 --     IsRead bytes is_all left      the bytes are those of one record, or all that was left
 --     AreBytes bytes      each of them is below 256
 --     IsNext chain bytes left found      what these bytes, which were read, say of what comes next
---     IsUnread after why      memory ran out, or reading failed
+--     CountsOn before after      no interruption is forgotten
+--     IsUnread before after why      memory ran out, or reading failed
 --     IsOtherHead digest bytes why      the bytes begin with another head
 --     IsReadOnWay new digest old left chain count end      `count` texts were read and taken, and
 --         end at `end`
 use Rattle.std.specs.Prelude.{◌≡◌, ◌⊎◌, ◌≤◌, ◌+◌, ◌++◌, ℕ, Bool, List, Option, MatchBool, drop}
-use Rattle.std.specs.Prelude.{length, take, true, All, reverse, get_or, ◌<◌}
+use Rattle.std.specs.Prelude.{length, take, true, All, reverse, get_or, min, ◌<◌}
 use Rattle.clock_device.specs.Reports.{SourceReport}
 use Rattle.clock_device.specs.Streams.{HasRead, IsReadOut}
 use Rattle.clock_journal.specs.Crash.{IsEnd}
@@ -18,11 +19,11 @@ use Rattle.clock_journal.specs.Format.{Fits}
 use Rattle.clock_journal.specs.Logged.{file_of}
 use Rattle.clock_journal.specs.Reading.{damaged, is_marked, marked_length, next, whole}
 use Rattle.clock_journal.specs.Recovering.{HasHead, HasSomeHead}
-use Rattle.clock_journal.specs.Sources.{IsBroken}
+use Rattle.clock_journal.specs.Sources.{IsBroken, most_counted}
 use Rattle.clock_journal.specs.declared.reading.Found.{Found}
 use Rattle.clock_journal.specs.declared.reading.Found.TheVariants as found
 use Rattle.clock_journal.specs.declared.recovery.JournalFault.{JournalFault}
-use Rattle.clock_journal.specs.declared.recovery.JournalFault.TheVariants.{Failed, NoMemory, Setup}
+use Rattle.clock_journal.specs.declared.recovery.JournalFault.TheVariants.{NoMemory, Setup, Unread}
 use Rattle.clock_journal.specs.declared.recovery.JournalFault.TheVariants.{Unknown}
 
 -- the bytes of a head
@@ -85,6 +86,10 @@ IsNext chain bytes left found.Ended = IsEnd (next chain bytes) × IsReadOut left
 IsNext chain bytes left found.Damaged = next chain bytes ≡ damaged
 IsNext chain bytes left (found.Whole digest) = IsWhole chain bytes digest
 
+-- no interruption is forgotten
+abbrev pub CountsOn : SourceReport → SourceReport → Type 0
+CountsOn before after = min before.interruptions most_counted ≤ after.interruptions
+
 -- memory ran out, or reading failed
-abbrev pub IsUnread : SourceReport → JournalFault → Type 0
-IsUnread after why = (why ≡ NoMemory) ⊎ ((why ≡ Failed) × IsBroken after)
+abbrev pub IsUnread : SourceReport → SourceReport → JournalFault → Type 0
+IsUnread before after why = (why ≡ NoMemory) ⊎ ((why ≡ Unread) × IsBroken before after)

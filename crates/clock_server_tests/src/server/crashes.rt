@@ -7,6 +7,7 @@ use super::crash_disk::{CrashDisk, Passed};
 use super::loops::{Sent, assert_written, clients};
 use crate::comparing::{assert_is, assert_is_at, made_at};
 use crate::memory_acceptor::{MemoryAcceptor, NoFault};
+use clock_device::ListSource;
 use clock_fixtures::{ACCEPTED, BIDS_OF_X, FIRST_ROUND, NO_BIDS, ONE_PRODUCT, PUT, STATUS};
 use clock_front::Front;
 use clock_journal::{EndedJournal, Link, NewJournal, Recovered};
@@ -94,18 +95,14 @@ fn generation<'a, R: Abort>(
         drop(journal);
         return None;
     };
-    let Ok(file) = file.to_vec(alloc) else {
-        drop(journal);
-        drop(auction);
-        return None;
-    };
+    let source = ListSource::new(file, 7, None);
     let tell = |_recovered: Recovered| {};
-    let (end, ended) = serve_from(
+    let (end, ended, _source) = serve_from(
         alloc,
         &mut auction,
         journal,
         Silent,
-        file,
+        source,
         tell,
         listed,
         count,

@@ -1,14 +1,14 @@
 //! The loop of a server over connections in memory: what is written on each, if one fails, and if a
 //! request can't be logged.
-ghost use Rattle.std.specs.Prelude.{◌≡◌, false};
+ghost use Rattle.std.specs.Prelude.{◌≡◌, IfSome, false};
 
 use crate::comparing::{assert_is, assert_is_at, assert_reads_at, made_at};
 use crate::front::example::on_one_product;
 use crate::memory_acceptor::{Client, Closed, MemoryAcceptor};
-use clock_device::Stop;
+use clock_device::{ListSource, Stop};
 use clock_fixtures::{ACCEPTED, CUT_SHORT, Count, FIRST_ROUND, MemoryDisk, PUT, STATUS};
 use clock_front::Front;
-use clock_journal::NewJournal;
+use clock_journal::{Journal, NewJournal};
 use clock_processor::Plain;
 use clock_server::{NoLog, RequestLog, ServeFault, serve_all};
 use std::alloc::Global;
@@ -83,6 +83,27 @@ fn compare<K: RequestLog>(
     drop(listed);
 }
 
+/// Returns the journal on a new disk of which only the first `syncs` syncs succeed, if its start
+/// succeeds. `bytes` are those of the disk: none.
+fn started(alloc: Global, syncs: u64, bytes: &[u8]) -> Option<Journal<MemoryDisk>>
+    ensures { IfSome result (λ journal. journal.has_failed ≡ false) }
+{
+    let disk = MemoryDisk::new(alloc, 4096, syncs);
+    let mut source = ListSource::new(bytes, 1, None);
+    match NewJournal::new(disk, [7; 32]).resume(
+        alloc,
+        &mut Count(0),
+        &mut source,
+        |_recovered| {},
+    ) {
+        Ok((journal, _recovered)) => Some(journal),
+        Err((_fault, ended)) => {
+            drop(ended);
+            None
+        }
+    }
+}
+
 /// Compares like [`compare`], with a journal of which only the first `syncs` syncs succeed.
 fn compare_logged(
     rt: &impl Abort,
@@ -93,8 +114,7 @@ fn compare_logged(
     row: &Loop<'_>,
 ) {
     let mut length = 0;
-    let new = NewJournal::new(MemoryDisk::new(alloc, 4096, syncs), [7; 32]);
-    if let Ok((mut journal, _recovered)) = new.resume(&mut Count(0), b"", |_recovered| {}) {
+    if let Some(mut journal) = started(alloc, syncs, b"") {
         compare(rt, alloc, front, &mut journal, clients, row);
         length = journal.disk().bytes().len();
         drop(journal);

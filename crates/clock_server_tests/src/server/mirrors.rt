@@ -1,6 +1,7 @@
 //! What a start makes of the two files of a journal.
 use super::crash_disk::CrashDisk;
 use crate::comparing::{assert_is_at, assert_reads_at};
+use clock_device::ListSource;
 use clock_journal::{LevelFault, level};
 use std::alloc::Global;
 use std::process::Abort;
@@ -23,7 +24,14 @@ fn assert_starts(rt: &impl Abort, alloc: Global, start: &Start<'_>) {
     let (one, other) = (start.one.as_bytes(), start.other.as_bytes());
     let mut first = CrashDisk::new(rt, alloc, one, start.calls);
     let mut second = CrashDisk::new(rt, alloc, other, start.other_calls);
-    let end = level(&mut first, &mut second, one, other);
+    let mut first_source = ListSource::new(one, 2, None);
+    let mut second_source = ListSource::new(other, 3, None);
+    let end = level(
+        &mut first,
+        &mut second,
+        &mut first_source,
+        &mut second_source,
+    );
     assert_is_at(rt, start.name, end, start.end);
     assert_reads_at(rt, start.name, first.bytes(), start.left);
     assert_reads_at(rt, start.name, second.bytes(), start.other_left);
@@ -44,8 +52,8 @@ const fn unfailing<'a>(
         name,
         one,
         other,
-        calls: 2,
-        other_calls: 2,
+        calls: 3,
+        other_calls: 3,
         end,
         left,
         other_left,
@@ -117,16 +125,16 @@ fn a_failed_call_of_either_disk_is_reported(rt: HostRuntime) {
             "",
             "abcd",
             0,
-            2,
+            3,
             "ab",
             "abcd",
         ),
-        failing("the first is not synced", "abcd", "", 1, 2, "abcd", ""),
+        failing("the first is not synced", "abcd", "", 2, 3, "abcd", ""),
         failing(
             "the second is not appended to",
             "abcd",
             "",
-            2,
+            3,
             0,
             "abcd",
             "ab",
@@ -135,8 +143,8 @@ fn a_failed_call_of_either_disk_is_reported(rt: HostRuntime) {
             "the second is not synced",
             "abcd",
             "a",
+            3,
             2,
-            1,
             "abcd",
             "abcd",
         ),

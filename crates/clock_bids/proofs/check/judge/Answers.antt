@@ -1,49 +1,48 @@
--- One step of the loop: each of the three ways to find the last bid for the product finds it, and with it the bid's
+-- One step of the loop: each of the two ways to find the last bid for the product finds it, and with it the bid's
 -- first fault is the one of the rules. The activity so far has the units of that last bid, so that the subtraction is
 -- safe.
-use Rattle.std.proofs.Common.{◌≡◌, ◌+◌, ◌*◌, ◌<◌, ◌≤◌, List, length, take, ◌∙◌, ap, sym, subst, arith, get_or, rules}
+use Rattle.std.proofs.Common.{◌≡◌, ◌+◌, ◌*◌, ◌≤◌, List, length, take, ◌∙◌, ap, sym, subst, arith, get_or, rules}
 use Rattle.std.specs.Prelude.{None}
 use Rattle.std.specs.Option.{option_copied}
 use Rattle.clock_terms.specs.declared.setup.Product.{Product}
 use Rattle.clock_terms.specs.Limits.{IsRow}
 use Rattle.clock_bids.specs.inside.Chains.{last_bids, quantity_of}
-use Rattle.clock_bids.specs.inside.LastBids.{AreLastPlaces}
+use Rattle.clock_bids.specs.inside.LastBids.{IsTableBefore}
 use Rattle.clock_bids.proofs.Tables.{no_bid}
-use Rattle.clock_bids.proofs.LastBids.{none_below, known_all, last_read, below_more}
+use Rattle.clock_bids.proofs.LastBids.{none_below, known_all, below_more, table_later}
 use Rattle.clock_bids.proofs.Judging.{none_judged, none_at_fault}
 use Rattle.clock_bids.proofs.Judging.{all_taken, fault_found, known, units_held, judged_more}
 use Rattle.clock_bids.proofs.check.judge.Goals as goal
-use Rattle.clock_bids.proofs.check.judge.Goals.{In_default-bid_fault, then-bid-least, else-bid-least+in-Some}
-use Rattle.clock_bids.proofs.check.judge.Goals.{else-bid-least+in_default+in_ok-places}
+use Rattle.clock_bids.proofs.check.judge.Goals.{In_default, then-bid-least}
+use Rattle.clock_bids.proofs.check.judge.Goals.{else-bid-least+in_ok-last}
 
 pub loop-i-init : goal.loop-i-init
 loop-i-init c = record {
   judged = none_judged c.args.setup.now.products c.args.prices.now c.args.demands.now c.args.bids.now;
   below = λ k d within. absurd (omega (arith, within));
-  order = omega arith;
-  placed = λ none. absurd (omega (arith, none));
+  table = record {
+    order = omega arith;
+    table = λ none. absurd (omega (arith, none));
+  };
 }
 
-pub last_places-requires-clause-few : goal.last_places-requires-clause-few
-last_places-requires-clause-few c = c.requires.few
+pub earlier_bid-requires-clause-few : goal.earlier_bid-requires-clause-few
+earlier_bid-requires-clause-few c = c.requires.few
 
-pub last_places-requires-clause-order : goal.last_places-requires-clause-order
-last_places-requires-clause-order c = c.loop-i.invariant.order
+pub earlier_bid-requires-clause-place : goal.earlier_bid-requires-clause-place
+earlier_bid-requires-clause-place c = omega (arith, c.loop-i-test.true)
 
-pub last_places-requires-clause-place : goal.last_places-requires-clause-place
-last_places-requires-clause-place c = omega (arith, c.loop-i-test.true)
-
-pub last_places-requires-clause-known : goal.last_places-requires-clause-known
-last_places-requires-clause-known c =
+pub earlier_bid-requires-clause-known : goal.earlier_bid-requires-clause-known
+earlier_bid-requires-clause-known c =
     let same = c.as_slice-products.ensures ∙ ap (λ s. s.products) c.setup.view_is in
     known_all c.args.setup.now.products c.as_slice-products.result.now (take c.loop-i.i c.args.bids.now) same
     c.loop-i.invariant.judged.good.known
 
-pub last_places-requires-clause-placed : goal.last_places-requires-clause-placed
-last_places-requires-clause-placed c =
+pub earlier_bid-requires-clause-table : goal.earlier_bid-requires-clause-table
+earlier_bid-requires-clause-table c =
     let same = c.as_slice-products.ensures ∙ ap (λ s. s.products) c.setup.view_is in
-    subst (λ (ps : List Product). 0 < c.loop-i.placed → AreLastPlaces (length ps) c.args.bids.now c.loop-i.placed
-    c.loop-i.places.items) (sym same) c.loop-i.invariant.placed
+    subst (λ (ps : List Product). IsTableBefore (length ps) c.args.bids.now c.loop-i.i c.loop-i.table.placed
+    c.loop-i.table.places.items) (sym same) c.loop-i.invariant.table
 
 pub bid_fault-requires-clause-prices : goal.bid_fault-requires-clause-prices
 bid_fault-requires-clause-prices c =
@@ -55,30 +54,26 @@ bid_fault-requires-clause-demands c =
     let same = c.as_slice-products.ensures ∙ ap (λ s. s.products) c.setup.view_is in
     subst (λ (ps : List Product). IsRow ps c.args.demands.now) (sym same) c.requires.demands
 
-pub returns-in-Some-bid_fault-clause-fault : goal.returns-in-Some-bid_fault-clause-fault
-returns-in-Some-bid_fault-clause-fault c _ =
+pub returns-in-Some-clause-fault : goal.returns-in-Some-clause-fault
+returns-in-Some-clause-fault c _ =
     let list = c.args.setup.now.products in
     let bids = c.args.bids.now in
     let i = c.loop-i.i in
     let bid = get_or bids i no_bid in
     let seen = c.as_slice-products.result.now in
     let same = c.as_slice-products.ensures ∙ ap (λ s. s.products) c.setup.view_is in
-    let all = known_all list seen (take i bids) same c.loop-i.invariant.judged.good.known in
     let last : option_copied c.if-bid-least.last ≡ get_or (last_bids (length seen) (take i bids)) bid.product None =
     elim c.if-bid-least.branch [
       | then-bid-least w ↦ ap option_copied w.last-is ∙ none_below (length seen) c.loop-i.least bid.product
           (take i bids) c.loop-i.invariant.below w.if-bid-least.true
-      | else-bid-least+in-Some w ↦ ap option_copied w.last-is ∙ w.in-Some.ensures (length seen) all
-      | else-bid-least+in_default+in_ok-places w ↦ ap option_copied w.last-is
-          ∙ last_read (length seen) bids i w.in_ok-places.places.items w.as_slice.result.now bid.product
-          (option_copied w.last_bid.result) w.in_ok-places.ensures w.as_slice.ensures.value w.last_bid.ensures
+      | else-bid-least+in_ok-last w ↦ ap option_copied w.last-is ∙ w.in_ok-last.ensures.last
     ] in
     fault_found list c.args.prices.now c.args.demands.now bids i c.loop-i.taken c.loop-i.invariant.judged
     c.loop-i-test.true seen (option_copied c.if-bid-least.last)
-    c.bid_fault.result same last c.bid_fault.ensures c.in-Some-bid_fault.fault c.in-Some-bid_fault.is
+    c.bid_fault.result same last c.bid_fault.ensures c.in-Some.fault c.in-Some.is
 
 -- the last bid for the product, among those before
-last_is : (c : In_default-bid_fault) → option_copied c.if-bid-least.last
+last_is : (c : In_default) → option_copied c.if-bid-least.last
     ≡ get_or (last_bids (length c.as_slice-products.result.now) (take c.loop-i.i c.args.bids.now))
     (get_or c.args.bids.now c.loop-i.i no_bid).product None
 last_is c =
@@ -86,24 +81,19 @@ last_is c =
     let i = c.loop-i.i in
     let bid = get_or bids i no_bid in
     let products = length c.as_slice-products.result.now in
-    let all = known_all c.args.setup.now.products c.as_slice-products.result.now (take i bids)
-    (c.as_slice-products.ensures ∙ ap (λ s. s.products) c.setup.view_is) c.loop-i.invariant.judged.good.known in
     elim c.if-bid-least.branch [
       | then-bid-least w ↦ ap option_copied w.last-is
           ∙ none_below products c.loop-i.least bid.product (take i bids) c.loop-i.invariant.below w.if-bid-least.true
-      | else-bid-least+in-Some w ↦ ap option_copied w.last-is ∙ w.in-Some.ensures products all
-      | else-bid-least+in_default+in_ok-places w ↦ ap option_copied w.last-is
-          ∙ last_read products bids i w.in_ok-places.places.items w.as_slice.result.now bid.product
-          (option_copied w.last_bid.result) w.in_ok-places.ensures w.as_slice.ensures.value w.last_bid.ensures
+      | else-bid-least+in_ok-last w ↦ ap option_copied w.last-is ∙ w.in_ok-last.ensures.last
     ]
 
 -- the bidding units of the last bid are part of the activity so far
-held : (c : In_default-bid_fault) (one : Product) → (get_or c.as_slice-products.result.now (get_or c.args.bids.now
+held : (c : In_default) (one : Product) → (get_or c.as_slice-products.result.now (get_or c.args.bids.now
     c.loop-i.i no_bid).product one).units * quantity_of (option_copied c.if-bid-least.last) ≤ c.loop-i.taken
 held c one = units_held c.args.setup.now.products c.args.prices.now c.args.demands.now c.args.bids.now c.loop-i.i
     c.loop-i.taken c.loop-i.invariant.judged c.loop-i-test.true c.as_slice-products.result.now
     (option_copied c.if-bid-least.last) c.bid_fault.result (c.as_slice-products.ensures
-    ∙ ap (λ s. s.products) c.setup.view_is) (last_is c) c.bid_fault.ensures c.in_default-bid_fault.is one
+    ∙ ap (λ s. s.products) c.setup.view_is) (last_is c) c.bid_fault.ensures c.in_default.is one
 
 pub taken_with-taken-requires-clause-units : goal.taken_with-taken-requires-clause-units
 taken_with-taken-requires-clause-units c = search rules
@@ -118,22 +108,22 @@ taken_with-taken-requires-clause-taken c =
 
 pub taken_with-taken-requires-clause-held : goal.taken_with-taken-requires-clause-held
 taken_with-taken-requires-clause-held c =
-    held (goal.at.taken_with-taken-requires-clause-held c).In_default-bid_fault c.index-products-bid.result
+    held (goal.at.taken_with-taken-requires-clause-held c).In_default c.index-products-bid.result
 
 pub loop-i-preserved : goal.loop-i-preserved
 loop-i-preserved c =
     let list = c.args.setup.now.products in
     let bids = c.args.bids.now in
     let i = c.loop-i.i in
-    let at = (goal.at.loop-i-preserved c).In_default-bid_fault in
+    let at = (goal.at.loop-i-preserved c).In_default in
     let same = c.as_slice-products.ensures ∙ ap (λ s. s.products) c.setup.view_is in
     let here = known list c.args.prices.now c.args.demands.now bids i c.loop-i.taken c.loop-i.invariant.judged
     c.loop-i-test.true c.as_slice-products.result.now (option_copied c.if-bid-least.last) c.bid_fault.result same
-    (last_is at) c.bid_fault.ensures c.in_default-bid_fault.is c.index-products-bid.result in
+    (last_is at) c.bid_fault.ensures c.in_default.is c.index-products-bid.result in
     record {
       judged = judged_more list c.args.prices.now c.args.demands.now bids i c.loop-i.taken c.loop-i.invariant.judged
           c.loop-i-test.true c.as_slice-products.result.now (option_copied c.if-bid-least.last) c.bid_fault.result same
-          (last_is at) c.bid_fault.ensures c.in_default-bid_fault.is c.index-products-bid.result
+          (last_is at) c.bid_fault.ensures c.in_default.is c.index-products-bid.result
           c.taken_with-taken.result c.taken_with-taken.ensures.exact c.taken_with-taken.ensures.most;
       below = elim c.if-bid-least.branch [
         | then-bid-least w ↦
@@ -147,21 +137,14 @@ loop-i-preserved c =
             ) in
             below_more bids i c.loop-i.least c.if-bid-least.least c.loop-i-test.true
             (omega (arith, next, w.if-bid-least.true)) (omega (arith, next)) c.loop-i.invariant.below
-        | else-bid-least+in-Some w ↦ rw w.least-is (below_more bids i c.loop-i.least c.loop-i.least c.loop-i-test.true
-            (omega arith) (omega (arith, w.if-bid-least.false)) c.loop-i.invariant.below)
-        | else-bid-least+in_default+in_ok-places w ↦ rw w.least-is (below_more bids i c.loop-i.least c.loop-i.least
+        | else-bid-least+in_ok-last w ↦ rw w.least-is (below_more bids i c.loop-i.least c.loop-i.least
             c.loop-i-test.true (omega arith) (omega (arith, w.if-bid-least.false)) c.loop-i.invariant.below)
       ];
-      order = elim c.if-bid-least.branch [
-        | then-bid-least w ↦ omega (arith, w.placed-is, c.loop-i.invariant.order)
-        | else-bid-least+in-Some w ↦ omega (arith, w.placed-is, c.loop-i.invariant.order)
-        | else-bid-least+in_default+in_ok-places w ↦ omega (arith, w.placed-is)
-      ];
-      placed = elim c.if-bid-least.branch [
-        | then-bid-least w ↦ rw (w.placed-is, w.places-is) c.loop-i.invariant.placed
-        | else-bid-least+in-Some w ↦ rw (w.placed-is, w.places-is) c.loop-i.invariant.placed
-        | else-bid-least+in_default+in_ok-places w ↦ rw (w.placed-is, w.places-is) (λ _. subst (λ (ps : List Product).
-            AreLastPlaces (length ps) bids i w.in_ok-places.places.items) same w.in_ok-places.ensures)
+      table = elim c.if-bid-least.branch [
+        | then-bid-least w ↦ rw w.table-is (table_later list bids i _ _ c.loop-i.invariant.table)
+        | else-bid-least+in_ok-last w ↦ rw w.table-is (table_later list bids i _ _
+            (subst (λ (ps : List Product). IsTableBefore (length ps) bids i w.earlier_bid.new.table.placed
+            w.earlier_bid.new.table.places.items) same w.in_ok-last.ensures.table))
       ];
     }
 

@@ -1,6 +1,6 @@
-use Rattle.std.proofs.Common.{◌≤◌, ◌<◌, length, take, All}
+use Rattle.std.proofs.Common.{◌<◌, length, take, All}
 use Rattle.clock_bids.proofs.Judging.{AreJudged}
-use Rattle.clock_bids.specs.inside.LastBids.{AreLastPlaces}
+use Rattle.clock_bids.specs.inside.LastBids.{IsTableBefore}
 use Rattle.clock_bids.proofs.check.judge.Given as goal
 
 -- the bids so far are good and for products below `least`, and the table has the first `placed` bids
@@ -8,6 +8,5 @@ abbrev pub invariant-loop-i : goal.invariant-loop-i
 invariant-loop-i l = record {
   judged : AreJudged l.setup.products l.prices l.demands l.bids l.i l.taken;
   below : All (λ bid. bid.product < l.least) (take l.i l.bids);
-  order : l.placed ≤ l.i;
-  placed : 0 < l.placed → AreLastPlaces (length l.setup.products) l.bids l.placed l.places.items;
+  table : IsTableBefore (length l.setup.products) l.bids l.i l.table.placed l.table.places.items;
 }

@@ -1,4 +1,4 @@
-use Rattle.std.proofs.Common.{◌≡◌, List, ℕ, inl, sym, subst, arith, rules}
+use Rattle.std.proofs.Common.{◌≡◌, List, ℕ, inl, sym, subst}
 use Rattle.clock_journal.specs.Reading.{ended, next, torn, whole}
 use Rattle.clock_journal.proofs.Pieces.{damage_is, ended_out, whole_is}
 use Rattle.clock_journal.proofs.reading.find_next.Goals as goal

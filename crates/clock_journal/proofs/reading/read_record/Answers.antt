@@ -1,4 +1,4 @@
-use Rattle.std.proofs.Common.{ap, arith, length, rules}
+use Rattle.std.proofs.Common.{ap, arith, length}
 use Rattle.clock_journal.proofs.Pieces.{both_ok, length_is, record_read, short_text}
 use Rattle.clock_journal.proofs.reading.read_record.Goals as goal
 

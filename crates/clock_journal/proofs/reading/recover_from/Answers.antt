@@ -3,7 +3,8 @@ use Rattle.std.proofs.lemmas.Result.{err_from_is_err_and}
 use Rattle.clock_device.specs.Streams.{HasRead}
 use Rattle.clock_journal.specs.Format.{head}
 use Rattle.clock_journal.proofs.Files.{length-head}
-use Rattle.clock_journal.proofs.Sourced.{all_of, has_any, has_before, head_not_read, rest_of, short_out, whole_head}
+use Rattle.clock_journal.proofs.Sourced.{all_of, has_any, has_before, head_not_read, not_read_since, rest_of, short_out}
+use Rattle.clock_journal.proofs.Sourced.{whole_head}
 use Rattle.clock_journal.proofs.Taking.{if_err, if_ok}
 use Rattle.clock_journal.proofs.reading.recover_from.Goals as goal
 
@@ -22,7 +23,8 @@ returns-in_err-has_head-clause-err g c =
     rw (p.1, p.2) (head_not_read (λ (past : List (List ℕ)) (text : List ℕ).
     g.M.Machine.stands_for c.args.machine.now c.args.digest.now []
     → g.M.Machine.refuses (g.M.Machine.rules c.args.machine.now) past text) c.args.digest.now (take count buffer)
-    (g.S.Source.report c.args.source.now).left after.left after c.in_err-has_head.field-0.0 (search rules)
+    (g.S.Source.report c.args.source.now).left after.left (g.S.Source.report c.args.source.now) after
+    c.in_err-has_head.field-0.0 (search rules)
     c.in-Ok.ensures.bytes (short_out buffer count after.left c.in-Ok.ensures.within size c.in-Ok.ensures.out)
     c.in_err-has_head.ensures.err)
 
@@ -70,5 +72,12 @@ returns-clause-err g c =
     let read = subst (HasRead old left) (whole_head digest buffer c.in-Ok.count c.in-Ok.ensures.within size has)
     c.in-Ok.ensures.bytes in
     if_err c.take_records.result _ _
-    (λ why found. (head digest ++ found.0, has_before old left (head digest) found.0 read found.1, found.2))
+    (λ why found. (
+      head digest ++ found.0,
+      has_before old left (head digest) found.0 read found.1,
+      not_read_since (λ (past : List (List ℕ)) (text : List ℕ). g.M.Machine.stands_for c.args.machine.now digest []
+          → g.M.Machine.refuses (g.M.Machine.rules c.args.machine.now) past text) digest (head digest ++ found.0)
+          (g.S.Source.report c.args.source.now) (g.S.Source.report c.fill.new.source)
+          (g.S.Source.report c.take_records.new.source) why c.fill.ensures.counted found.2,
+    ))
     c.take_records.ensures.err

@@ -1,5 +1,5 @@
-use Rattle.std.proofs.Common.{◌≡◌, ◌+◌, ◌++◌, List, [], ℕ, arith, ap, drop, inl, length, length-append, refl, reverse}
-use Rattle.std.proofs.Common.{rules, subst, sym, inr, ◌∙◌, ◌<◌, ◌-◌, get_or, take}
+use Rattle.std.proofs.Common.{◌++◌, List, [], ℕ, arith, ap, drop, inl, length, length-append, refl, reverse}
+use Rattle.std.proofs.Common.{rules, subst, sym, inr, ◌∙◌, ◌-◌, take}
 use Rattle.std.proofs.KnownBytes.{Consumes-nil}
 use Rattle.std.proofs.lemmas.List.{take_rest}
 use Rattle.std.proofs.lemmas.List.Elements.{All-nil}
@@ -7,6 +7,7 @@ use Rattle.std.proofs.lemmas.Result.{err_from_is_err_and}
 use Rattle.clock_journal.specs.Format.{Fits, before_text, head, link}
 use Rattle.clock_journal.specs.inside.Pieces.{IsNext}
 use Rattle.clock_journal.proofs.Files.{length-head}
+use Rattle.clock_journal.proofs.Pieces.{counts_since, unread_since}
 use Rattle.clock_journal.proofs.Sourced.{all_read, few_read, has_all, has_any, read_damage, read_end, read_far}
 use Rattle.clock_journal.proofs.Sourced.{read_more, read_whole, rest_of, unread_is}
 use Rattle.clock_journal.proofs.Taking.{next_entry, none_given}
@@ -26,6 +27,7 @@ loop-chain-init g c =
       },
       tt,
       refl,
+      omega arith,
     )
 
 pub returns-in_err-find_next-clause-err : goal.returns-in_err-find_next-clause-err
@@ -34,9 +36,11 @@ returns-in_err-find_next-clause-err g c =
     rw (p.1, p.2) (unread_is (λ (past : List (List ℕ)) (text : List ℕ).
     g.M.Machine.stands_for c.args.machine.now c.args.digest.now []
     → g.M.Machine.refuses (g.M.Machine.rules c.args.machine.now) past text) c.args.digest.now
-    (g.S.Source.report c.args.source.now).left
+    (g.S.Source.report c.args.source.now).left (g.S.Source.report c.args.source.now)
     (g.S.Source.report c.find_next.new.source) c.in_err-find_next.field-0.0 (λ bytes. head c.args.digest.now ++ bytes)
-    c.in_err-find_next.ensures.err)
+    (unread_since (g.S.Source.report c.args.source.now) (g.S.Source.report c.loop-chain.source)
+    (g.S.Source.report c.find_next.new.source) c.in_err-find_next.field-0.0 c.loop-chain.invariant.3
+    c.in_err-find_next.ensures.err))
 
 pub returns-in-Ended-clause-ok : goal.returns-in-Ended-clause-ok
 returns-in-Ended-clause-ok g c =
@@ -137,6 +141,8 @@ loop-chain-preserved g c =
       more.0,
       more.1,
       c.in-Ok.ensures.rules ∙ at.invariant.2,
+      counts_since (g.S.Source.report c.args.source.now) (g.S.Source.report at.source)
+          (g.S.Source.report c.find_next.new.source) at.invariant.3 c.find_next.ensures.counted,
     )
 
 pub returns-in-Err-Refused-clause-err : goal.returns-in-Err-Refused-clause-err

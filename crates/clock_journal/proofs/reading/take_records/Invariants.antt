@@ -1,6 +1,6 @@
 use Rattle.std.proofs.Common.{◌≡◌, ◌-◌, ◌^◌, []}
 use Rattle.clock_journal.specs.Resuming.{NoneRefused}
-use Rattle.clock_journal.specs.inside.Pieces.{IsReadOnWay}
+use Rattle.clock_journal.specs.inside.Pieces.{CountsOn, IsReadOnWay}
 use Rattle.clock_journal.proofs.reading.take_records.Given as goal
 
 -- some texts were read, taken, and counted, none of which is refused
@@ -12,6 +12,7 @@ invariant-loop-chain g l =
     × NoneRefused (λ past text. g.M.Machine.stands_for l.initial.machine l.digest []
     × g.M.Machine.refuses (g.M.Machine.rules l.initial.machine) past text) [] way.texts
     × (g.M.Machine.rules l.machine ≡ g.M.Machine.rules l.initial.machine)
+    × CountsOn (g.S.Source.report l.initial.source) (g.S.Source.report l.source)
 
 abbrev pub decreases-loop-chain : goal.decreases-loop-chain
 decreases-loop-chain g l = 2 ^ 64 - l.end

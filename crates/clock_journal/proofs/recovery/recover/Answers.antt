@@ -1,27 +1,23 @@
-use Rattle.std.proofs.Common.{◌≡◌, ◌≤◌, ◌+◌, ◌-◌, ◌++◌, List, [], ◌∷◌, ℕ, length, take, drop, refl, sym, ap, ◌∙◌}
-use Rattle.std.proofs.Common.{inl, inr, subst, arith, length-append, get_or, ◌<◌, rules, Bool, true, false, bytes_eq}
+use Rattle.std.proofs.Common.{◌≡◌, ◌≤◌, ◌+◌, ◌-◌, ◌++◌, List, [], ◌∷◌, ℕ, length, drop, refl, sym, ap, ◌∙◌}
+use Rattle.std.proofs.Common.{inl, subst, arith, length-append, get_or, ◌<◌, rules}
 use Rattle.std.proofs.Common.{append-nil, reverse}
-use Rattle.std.specs.Prelude.{not}
 use Rattle.std.proofs.lemmas.Result.{err_from_is_err_and}
 use Rattle.std.proofs.lemmas.List.Elements.{All-nil, All-push}
-use Rattle.std.proofs.lemmas.List.{length-reverse, reverse-reverse}
 use Rattle.std.proofs.lemmas.List.{append_assoc, drop_at, get_or-drop, take-append-drop, take_rest}
 use Rattle.clock_journal.specs.Format.{Fits, before_text, head, link, last_link, record_of, records}
 use Rattle.clock_journal.specs.Crash.{IsEnd, IsFile}
 use Rattle.clock_journal.specs.Reading.{Next, next, damaged, whole}
-use Rattle.clock_journal.specs.Recovering.{HasHead, record_at}
+use Rattle.clock_journal.specs.Recovering.{record_at}
 use Rattle.clock_journal.specs.inside.Replays.{IsOnWay}
 use Rattle.clock_journal.specs.Resuming.{NoneRefused}
 use Rattle.clock_journal.specs.Logged.{file_of}
 use Rattle.clock_journal.specs.declared.recovery.Record.{Record}
-use Rattle.clock_journal.proofs.Lists.{many_bytes, reverse-newest, reverse-push}
+use Rattle.clock_journal.proofs.Lists.{many_bytes, reverse-push}
 use Rattle.clock_journal.proofs.Moments.{file-push, last_link-push}
 use Rattle.clock_journal.proofs.OwnStarts.{not_refused_push}
 use Rattle.clock_journal.proofs.Sourced.{other_found}
 use Rattle.clock_journal.proofs.Taking.{next_entry, none_given}
-use Rattle.clock_journal.proofs.Files.{file_head_length, kind, length-head}
-use Rattle.clock_journal.proofs.TakenOver.{has_head, kind_of_head, long_head, not_same, other_head, short_headless}
-use Rattle.clock_journal.proofs.Tested.{same_where}
+use Rattle.clock_journal.proofs.Files.{file_head_length}
 use Rattle.clock_journal.proofs.Whole.{whole_fits, whole_record}
 use Rattle.clock_journal.proofs.recovery.recover.Goals as goal
 

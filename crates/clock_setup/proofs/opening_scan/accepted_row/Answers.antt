@@ -2,7 +2,7 @@
 use Rattle.std.proofs.Common.{◌≡◌, ◌<◌, ◌≤◌, All, List, ℕ, length, get_or, sym, ap, subst, ◌∙◌, arith}
 use Rattle.clock_terms.specs.declared.setup.Product.{Product}
 use Rattle.clock_terms.specs.Eligibility.{activity}
-use Rattle.clock_terms.specs.Limits.{SetupFields, IsProduct, IsRow, cap_of}
+use Rattle.clock_terms.specs.Limits.{SetupFields, IsProduct, cap_of}
 use Rattle.clock_setup.proofs.OpeningLaws.{row_passed, capped_pass}
 use Rattle.clock_setup.proofs.opening_scan.accepted_row.Goals.{After-as_slice-products}
 use Rattle.clock_setup.proofs.opening_scan.accepted_row.Goals as goal

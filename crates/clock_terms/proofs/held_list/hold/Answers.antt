@@ -1,5 +1,5 @@
 -- A positive demand is one more entry; a demand of 0 is none.
-use Rattle.std.proofs.Common.{◌≡◌, ◌+◌, ℕ, List, sym, ap, subst, ◌∙◌, arith}
+use Rattle.std.proofs.Common.{◌+◌, List, sym, ap, subst, ◌∙◌, arith}
 use Rattle.clock_terms.specs.declared.held_list.PositiveDemand.{PositiveDemand}
 use Rattle.clock_terms.specs.HeldDemands.{demand_for}
 use Rattle.clock_terms.specs.inside.Rows.{ArePositiveDemands}

@@ -1,8 +1,7 @@
 -- One step of the loop adds an entry for the next demand if it is positive.
-use Rattle.std.proofs.Common.{◌≡◌, ℕ, ◌<◌, ◌≤◌, ◌∙◌, List, length, get_or, refl, sym, ap, subst, ⊎_elim, arith}
+use Rattle.std.proofs.Common.{◌≡◌, ℕ, ◌<◌, ◌≤◌, ◌∙◌, length, get_or, subst, ⊎_elim, arith}
 use Rattle.std.proofs.lemmas.Bool.{cases_lt}
 use Rattle.std.proofs.lemmas.List.{ext_get_or}
-use Rattle.clock_terms.specs.declared.held_list.PositiveDemand.{PositiveDemand}
 use Rattle.clock_terms.specs.HeldDemands.{demand_for, demands_of}
 use Rattle.clock_terms.specs.inside.Rows.{ArePositiveDemands}
 use Rattle.clock_terms.proofs.HeldLaws.{length-demands, order_none, shown}

@@ -1,0 +1,2 @@
+-- What only proofs and private functions use: no clause of a public call cites it.
+pub mod Listed
