@@ -1,6 +1,7 @@
 -- A document that was read by bytes has the JSON value of its opening. Since its set-up was accepted, only the checks
 -- after the set-up decide what it means.
-use Rattle.std.proofs.Common.{◌≡◌, ℕ, List, map, Some, refl}
+use Rattle.std.proofs.Common.{◌≡◌, ℕ, List, Vec, map, Some, refl}
+use Rattle.std.specs.declared.alloc.Global.{Global}
 use Rattle.std.specs.Prelude.{⊤}
 use Rattle.std.specs.Str.{IsUtf8}
 use Rattle.serde_json.specs.Data.{Data}
@@ -33,8 +34,8 @@ unfolding opening_parts
 parts_are setup demands increment = rw (rows_are demands) refl
 
 -- a document with the value of an opening is decided by the checks after the set-up
-pub opening_read : (bytes : List ℕ) (found : NestedSetup × List (List ℕ) × ℕ) → IsUtf8 bytes
-    → read bytes ≡ Some (scanned_data found) → document_opening bytes ≡ opening_with found.0.setup found.1 found.2
+pub opening_read : (bytes : List ℕ) (found : NestedSetup × Vec (List ℕ) Global × ℕ) → IsUtf8 bytes
+    → read bytes ≡ Some (scanned_data found) → document_opening bytes ≡ opening_with found.0.setup found.1.items found.2
 unfolding document_opening
 opening_read bytes found text is = rw (json_value bytes (scanned_data found) text is) (opening_at
-    (scanned_data found) _ found.0.setup (parts_are (setup_data found.0.setup) found.1 found.2) found.0.accepted)
+    (scanned_data found) _ found.0.setup (parts_are (setup_data found.0.setup) found.1.items found.2) found.0.accepted)

@@ -1,10 +1,10 @@
 //! Reads an opening by bytes, without a tree of values, if all its checks pass. Its demands are
 //! read in one pass, and only the positive ones are stored. Any other document is left to the tree.
-ghost use Rattle.std.specs.Prelude.{◌≡◌, ◌≤◌, All, EachIndex, slice_index, None, Ok, length};
-ghost use Rattle.std.specs.Prelude.{IfOk, IfSome};
-ghost use Rattle.clock_json.specs.Reading.{numbers};
+ghost use Rattle.std.specs.Prelude.{◌≡◌, ◌≤◌, ◌<◌, ℕ, All, EachIndex, slice_index, None, Ok, length};
+ghost use Rattle.std.specs.Prelude.{IfOk, IfSome, IsTrue, OnOk, true, zip};
+ghost use Rattle.clock_json.specs.Reading.{ReadsValue, rows};
 ghost use Rattle.clock_terms.specs.{Demands.{IsGrid}, Eligibility.{activity}};
-ghost use Rattle.clock_terms.specs.Faults.{first_fault};
+ghost use Rattle.clock_terms.specs.Faults.{first_fault, in_turn};
 ghost use Rattle.clock_terms.specs.Limits.{IsProduct, IsRow, IsWithin, cap_of, least_increment};
 ghost use Rattle.clock_terms.specs.Limits.{most_increment, most_products};
 ghost use Rattle.clock_setup.specs.OpeningDocument.{document_opening, has_counts, opening_with};
@@ -13,51 +13,58 @@ ghost use Rattle.clock_setup.specs.inside.OpeningData.{scanned_data, found_openi
 
 use crate::opening::Opening;
 use crate::setup_scan::NestedSetup;
-use clock_device::{Items, NoMemory};
+use clock_device::NoMemory;
 use clock_json::{
-    PartReader, Scan, ScanStop, ScannedMembers, is_key, push, scanned_parts, scanned_text,
-    with_room,
+    PartReader, Scan, ScanStop, ScannedMembers, is_key, push, scanned_text, with_room,
 };
 use clock_money::{LEAST_INCREMENT, MOST_INCREMENT};
-use clock_terms::{Bidder, Grid, MOST_PRODUCTS, PackedRow, Product, Row, Setup, is_within};
+use clock_terms::{
+    Bidder, Grid, MOST_BIDDERS, MOST_PRODUCTS, PackedRow, Product, Row, Setup, is_within,
+};
 use std::alloc::Global;
 
-/// A row of demands for each bidder.
-type PackedRows = Items<PackedRow>;
+/// Returns a row with demands that were read. Declines demands above 1,000 blocks, and more of them
+/// than the products of a set-up, with `Unusual`. Frees the packed row before the next one is read:
+/// packed rows of all bidders would need half as much memory as their rows.
+fn row_of(alloc: Global, demands: &[u64]) -> Result<Row, ScanStop>
+    ensures { IfOk result (λ row. row ≡ demands.now) }
+{
+    let Some(packed) = PackedRow::of_list(alloc, demands)? else {
+        return Err(ScanStop::Unusual);
+    };
+    let row = Row::of_packed(alloc, &packed)?;
+    Ok(row)
+}
 
-/// Reads the demands of a bidder.
-#[derive(Drop)]
-struct DemandsReader;
-
-impl<'v> PartReader<'v> for DemandsReader {
-    type Part = PackedRow;
-
-    ghost levels = { 1 };
-
-    ghost shown = { numbers };
-
-    fn part(alloc: Global, scan: &mut Scan<'v>) -> Result<PackedRow, ScanStop> {
-        // memory for all products at once, since a list that grows is copied
-        let mut demands = with_room(alloc, MOST_PRODUCTS as usize)?;
+/// Reads the demands of all bidders.
+fn demand_rows(alloc: Global, scan: &mut Scan<'_>) -> Result<Vec<Row>, ScanStop>
+    ensures value { IfOk result (λ list. ReadsValue 2 scan.old (rows list.items) scan.new) }
+    ensures shorter { OnOk result (length scan.new < length scan.old) }
+{
+    scan.opens(b'[')?;
+    // memory for a whole set-up at once, since a list that grows is copied
+    let mut list = with_room(alloc, MOST_BIDDERS as usize)?;
+    let mut demands = with_room(alloc, MOST_PRODUCTS as usize)?;
+    'items: while !scan.closes(b']') {
+        demands.clear();
         scan.numbers_after(&mut demands)?;
-        let Some(row) = PackedRow::of_list(alloc, demands.as_slice())? else {
-            return Err(ScanStop::Unusual);
-        };
-        Ok(row)
+        let row = row_of(alloc, demands.as_slice())?;
+        push(&mut list, row)?;
     }
+    Ok(list)
 }
 
 /// What was found so far of an opening that is read by bytes. Such an opening has no escape in a
 /// text, only digits in a number, and no demand above 1,000.
 #[derive(Default, Drop)]
 struct FoundOpening {
-    demands: Option<PackedRows>,
+    demands: Option<Vec<Row>>,
     nested: Option<NestedSetup>,
     increment: Option<u64>,
 }
 
 impl<'v> ScannedMembers<'v> for FoundOpening {
-    type Whole = (NestedSetup, PackedRows, u64);
+    type Whole = (NestedSetup, Vec<Row>, u64);
 
     ghost levels = { 3 };
 
@@ -71,9 +78,7 @@ impl<'v> ScannedMembers<'v> for FoundOpening {
 
     fn read(&mut self, alloc: Global, key: &[u8], scan: &mut Scan<'v>) -> Result<(), ScanStop> {
         match key {
-            _ if is_key(key, "demands") => self.demands = Some(scanned_parts::<DemandsReader>(
-                alloc, scan, 0,
-            )?),
+            _ if is_key(key, "demands") => self.demands = Some(demand_rows(alloc, scan)?),
             _ if is_key(key, "setup") => self.nested = Some(NestedSetup::part(alloc, scan)?),
             _ if is_key(key, "increment") => self.increment = Some(scan.number()?),
             _ => return Err(ScanStop::Unusual),
@@ -81,7 +86,7 @@ impl<'v> ScannedMembers<'v> for FoundOpening {
         Ok(())
     }
 
-    fn whole(self) -> Option<(NestedSetup, PackedRows, u64)> {
+    fn whole(self) -> Option<(NestedSetup, Vec<Row>, u64)> {
         match (self.nested, self.demands, self.increment) {
             (Some(nested), Some(demands), Some(increment)) => Some((nested, demands, increment)),
             _ => None,
@@ -90,7 +95,7 @@ impl<'v> ScannedMembers<'v> for FoundOpening {
 }
 
 /// Whether there is a row for each bidder, and in each row a number for each product.
-fn has_counts(setup: &Setup, demands: &PackedRows) -> bool
+fn has_counts(setup: &Setup, demands: &[Row]) -> bool
     ensures { result ≡ has_counts setup.now demands.now }
 {
     let width = setup.products.len();
@@ -118,64 +123,64 @@ fn capped_activity(products: &[Product], row: &Row) -> Option<u64>
     Some(total)
 }
 
-/// Returns a bidder's row, if its demands and its activity pass all checks.
-fn accepted_row(
-    alloc: Global,
-    setup: &Setup,
-    number: u64,
-    bidder: &Bidder,
-    demands: &PackedRow,
-) -> Result<Option<Row>, NoMemory>
-    requires { length demands.now ≡ length setup.now.products }
-    ensures same { IfOk result (λ row. IfSome row (λ row. row ≡ demands.now)) }
-    ensures row { IfOk result (λ row. IfSome row (IsRow setup.now.products)) }
-    ensures passed { IfOk result (λ row. IfSome row (λ _.
-        first_fault (row_checks setup.now.products number (bidder.now, demands.now)) ≡ None)) }
+/// Whether a bidder's demands and its activity pass all checks.
+fn is_accepted(products: &[Product], bidder: &Bidder, row: &Row) -> bool
+    requires limits { All IsProduct products.now }
+    requires product_count { length products.now ≤ most_products }
+    requires each { length row.now ≡ length products.now }
+    ensures row { IsTrue result → IsRow products.now row.now }
+    ensures passed { IsTrue result → (number : ℕ)
+        → first_fault (row_checks products.now number (bidder.now, row.now)) ≡ None }
+{
+    match capped_activity(products, row) {
+        Some(units) => units <= bidder.eligibility,
+        None => false,
+    }
+}
+
+/// Whether the demands of all bidders pass the checks after the set-up.
+fn are_accepted(setup: &Setup, demands: &[Row]) -> bool
+    ensures counts { IsTrue result → has_counts setup.now demands.now ≡ true }
+    ensures rows { IsTrue result → All (IsRow setup.now.products) demands.now }
+    ensures passed { IsTrue result → first_fault
+        (in_turn (row_checks setup.now.products) 0 (zip setup.now.bidders demands.now)) ≡ None }
 {
     let products = setup.products.as_slice();
-    let row = Row::of_packed(alloc, demands)?;
-    let Some(units) = capped_activity(products, &row) else {
-        return Ok(None);
-    };
-    if units > bidder.eligibility {
-        return Ok(None);
+    let bidders = setup.bidders.as_slice();
+    if !has_counts(setup, demands) {
+        return false;
     }
-    Ok(Some(row))
+    for (number, bidder) in bidders.iter().enumerate() {
+        if !is_accepted(products, bidder, &demands[number]) {
+            return false;
+        }
+    }
+    true
 }
 
 /// Returns the grid of an opening, if the checks after the set-up pass.
 fn accepted_grid(
     alloc: Global,
     setup: &Setup,
-    demands: &PackedRows,
+    demands: Vec<Row>,
     increment: u64,
 ) -> Result<Option<Grid>, NoMemory>
     ensures ok { IfOk result (λ grid. IfSome grid (λ grid.
-        opening_with setup.now demands.now increment
+        opening_with setup.now demands.items increment
         ≡ Ok (record { setup = setup.now; grid = grid; increment = increment }))) }
     ensures grid { IfOk result (λ grid. IfSome grid
         (IsGrid (length setup.now.bidders) (length setup.now.products))) }
     ensures increment { IfOk result (λ grid. IfSome grid
         (λ _. IsWithin least_increment most_increment increment)) }
 {
-    let bidders = setup.bidders.as_slice();
-    if !has_counts(setup, demands) {
+    if !is_within(LEAST_INCREMENT, MOST_INCREMENT, increment)
+        || !are_accepted(setup, demands.as_slice())
+    {
+        // each `drop` of this file keeps the proof small: at a scope's end each field is proved
+        drop(demands);
         return Ok(None);
     }
-    if !is_within(LEAST_INCREMENT, MOST_INCREMENT, increment) {
-        return Ok(None);
-    }
-    let mut rows = with_room(alloc, bidders.len())?;
-    for (number, bidder) in bidders.iter().enumerate() {
-        let accepted = accepted_row(alloc, setup, number as u64, bidder, &demands[number])?;
-        let Some(row) = accepted else {
-            // each `drop` of this file keeps the proof small: at a scope's end each field is proved
-            drop(rows);
-            return Ok(None);
-        };
-        push(&mut rows, row)?;
-    }
-    let grid = Grid::of_rows(alloc, setup, rows)?;
+    let grid = Grid::of_rows(alloc, setup, demands)?;
     Ok(Some(grid))
 }
 
@@ -183,19 +188,17 @@ fn accepted_grid(
 fn accepted(
     alloc: Global,
     setup: Setup,
-    demands: PackedRows,
+    demands: Vec<Row>,
     increment: u64,
 ) -> Result<Option<Opening>, NoMemory>
     ensures ok { IfOk result (λ opening. IfSome opening (λ opening.
-        opening_with setup demands increment ≡ Ok opening)) }
+        opening_with setup demands.items increment ≡ Ok opening)) }
     ensures grid { IfOk result (λ opening. IfSome opening (λ opening.
         IsGrid (length opening.setup.bidders) (length opening.setup.products) opening.grid)) }
     ensures increment { IfOk result (λ opening. IfSome opening (λ opening.
         IsWithin least_increment most_increment opening.increment)) }
 {
-    let grid = accepted_grid(alloc, &setup, &demands, increment);
-    drop(demands);
-    match grid {
+    match accepted_grid(alloc, &setup, demands, increment) {
         Ok(Some(grid)) => Ok(Some(Opening {
             setup,
             grid,

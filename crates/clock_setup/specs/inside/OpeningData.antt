@@ -5,7 +5,8 @@
 --     found_opening, scanned_data      an opening while it is read by bytes, and the JSON value of
 --         a whole one
 use Rattle.std.specs.Prelude.{ℕ, List, [], ◌∷◌, Option, Some, option_and_then, option_map, map}
-use Rattle.std.specs.Prelude.{codes}
+use Rattle.std.specs.Prelude.{codes, Vec}
+use Rattle.std.specs.declared.alloc.Global.{Global}
 use Rattle.serde_json.specs.Data.{Data, object}
 use Rattle.clock_json.specs.Tree.{items_at, numbers_from, each}
 use Rattle.clock_json.specs.Rows.{shortened}
@@ -34,9 +35,10 @@ short_rows_in value = option_map (map (map shortened))
 
 -- the keys of an opening, each with its value if it was found
 abbrev pub found_opening : FoundOpening → Fields
-found_opening found = opening_fields (option_map rows found.demands) found.increment
+found_opening found = opening_fields (option_map (λ list. rows list.items) found.demands)
+    found.increment
     (option_map (λ nested. setup_data nested.setup) found.nested)
 
 -- the JSON value of an opening that was read by bytes
-abbrev pub scanned_data : NestedSetup × List (List ℕ) × ℕ → Data
-scanned_data found = opening_data (setup_data found.0.setup) found.1 found.2
+abbrev pub scanned_data : NestedSetup × Vec (List ℕ) Global × ℕ → Data
+scanned_data found = opening_data (setup_data found.0.setup) found.1.items found.2

@@ -7,8 +7,8 @@ use Rattle.std.proofs.lemmas.Iterator.Search.{all_from_yields_List}
 use Rattle.clock_terms.specs.Limits.{SetupFields}
 use Rattle.clock_setup.proofs.opening_scan.has_counts.Goals as goal
 
-pub returns-then-len : goal.returns-then-len
-returns-then-len c =
+pub returns-then-demands-len : goal.returns-then-demands-len
+returns-then-demands-len c =
     let setup = c.args.setup.now in
     let demands : List (List ℕ) = c.args.demands.now in
     let all : c.all.result ≡ list_all (λ (row : List ℕ). length row == c.len-width.result) demands =
@@ -16,8 +16,8 @@ returns-then-len c =
     (YieldsList-from_slice demands cc) (λ x b q k. search (rules, tests)) in
     let width : c.len-width.result ≡ length setup.products =
     c.len-width.ensures ∙ ap (λ (s : SetupFields). length s.products) c.setup.view_is in
-    let count : c.len-2.result ≡ length setup.bidders =
-    c.len-2.ensures ∙ ap (λ (s : SetupFields). length s.bidders) c.setup.view_is in
+    let count : c.len.result ≡ length setup.bidders =
+    c.len.ensures ∙ ap (λ (s : SetupFields). length s.bidders) c.setup.view_is in
     let same : (length demands == length setup.bidders) ≡ true = grind (arith, nat_tests) in
     all ∙ ap (λ n. list_all (λ (row : List ℕ). length row == n) demands) width
     ∙ ap (λ (test : Bool). test && list_all (λ (row : List ℕ). length row == length setup.products) demands) (sym same)
