@@ -1,7 +1,7 @@
 //! Reads an opening by bytes, without a tree of values, if all its checks pass. Its demands are
 //! read in one pass, and only the positive ones are stored. Any other document is left to the tree.
-ghost use Rattle.std.specs.Prelude.{◌≡◌, ◌≤◌, ◌<◌, ℕ, All, EachIndex, slice_index, None, Ok, length};
-ghost use Rattle.std.specs.Prelude.{IfOk, IfSome, IsTrue, OnOk, true, zip};
+ghost use Rattle.std.specs.Prelude.{◌≡◌, ◌≤◌, ◌<◌, ℕ, All, EachIndex, slice_index, None, Ok};
+ghost use Rattle.std.specs.Prelude.{IfOk, IfSome, IsTrue, OnOk, length, true, zip};
 ghost use Rattle.clock_json.specs.Reading.{ReadsValue, rows};
 ghost use Rattle.clock_terms.specs.{Demands.{IsGrid}, Eligibility.{activity}};
 ghost use Rattle.clock_terms.specs.Faults.{first_fault, in_turn};
