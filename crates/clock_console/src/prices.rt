@@ -1,18 +1,19 @@
 ghost use Rattle.std.specs.Prelude.{◌≡◌, ◌≤◌, ◌+◌, ◌++◌, Ok, All, length, drop, IfOk, IfErr};
-ghost use Rattle.std.specs.Prelude.{OnOk};
+ghost use Rattle.std.specs.Prelude.{OnOk, codes, decimal};
 ghost use Rattle.clock_device.specs.Decimal.{number_or_dash};
 ghost use Rattle.clock_terms.specs.{Demands.{IsGrid}, Faults.{IsRefusal}, Increments.{IsIncrement}};
-ghost use Rattle.clock_terms.specs.Limits.{IsProduct};
+ghost use Rattle.clock_terms.specs.Limits.{IsProduct, IsWithin, most_granule};
+ghost use Rattle.clock_money.specs.Price.{raise};
 ghost use Rattle.clock_setup.specs.OpeningDocument.{document_opening};
 ghost use Rattle.clock_setup.specs.SetupDocument.{document_setup};
 ghost use Rattle.clock_console.specs.Prices.{first_round, opening_lines_of, prices_of, read_in};
-ghost use Rattle.clock_console.specs.PriceLines.{price_line, price_lines};
+ghost use Rattle.clock_console.specs.PriceLines.{price_lines};
 
 use crate::fault::Fault;
 use clock_device::{NoMemory, Text, put_before};
 use clock_money::{Price, clock_price};
 use clock_posting::{PostFault, post_first, sheet_lines};
-use clock_setup::{Opening, read_opening, read_setup};
+use clock_setup::{Opening, ProductEntry, read_opening, read_setup, scanned_products};
 use clock_terms::{Increments, Product, Setup};
 use itoa::write_digits;
 use std::alloc::Global;
@@ -35,7 +36,27 @@ fn prices_text(alloc: Global, products: &[Product], increment: u64) -> Result<Te
 {
     let mut text = Text::new(alloc);
     for product in products {
-        push_line(&mut text, product, increment)?;
+        let name = product.name.as_slice();
+        push_line(&mut text, name, product.opening, product.granule, increment)?;
+    }
+    Ok(text)
+}
+
+/// Like [`prices_text`], for products that borrow their names from the document.
+fn entries_text(
+    alloc: Global,
+    products: &[ProductEntry<'_>],
+    increment: u64,
+) -> Result<Text, NoMemory>
+    requires increment { IsIncrement increment }
+    requires limits { All IsProduct products.now }
+    ensures { IfOk result (λ text. text ≡ price_lines increment products.now) }
+{
+    let mut text = Text::new(alloc);
+    for product in products {
+        let name = product.name.as_bytes();
+        let opening = Price::new(product.opening).unwrap();
+        push_line(&mut text, name, opening, product.granule, increment)?;
     }
     Ok(text)
 }
@@ -63,24 +84,33 @@ fn put_or_dash(bytes: &mut [u8], end: usize, price: Option<Price>) -> usize
 
 /// Appends the price line of a product. Writes what follows the name into an array from its end to
 /// its start, and copies it once. May return `NoMemory`; then part of the line may be appended.
-fn push_line(text: &mut Text, product: &Product, increment: u64) -> Result<(), NoMemory>
+fn push_line(
+    text: &mut Text,
+    name: &[u8],
+    opening: Price,
+    granule: u64,
+    increment: u64,
+) -> Result<(), NoMemory>
     requires increment { IsIncrement increment }
-    requires product { IsProduct product.now }
-    ensures { OnOk result (text.new ≡ text.old ++ price_line increment product.now) }
+    requires granule { IsWithin 1 most_granule granule }
+    ensures { OnOk result (text.new ≡ text.old ++ (name.now ++ codes " " ++ decimal opening
+        ++ codes " " ++ number_or_dash (raise opening increment granule) ++ codes "\n")) }
 {
-    let clock = clock_price(product.opening, increment, product.granule);
+    let clock = clock_price(opening, increment, granule);
     let mut numbers = [0; NUMBERS_ROOM];
     let end = put_before(&mut numbers, NUMBERS_ROOM, b"\n");
     let clock_at = put_or_dash(&mut numbers, end, clock);
     let behind_opening = put_before(&mut numbers, clock_at, b" ");
-    let opening_at = put_or_dash(&mut numbers, behind_opening, Some(product.opening));
+    let opening_at = put_or_dash(&mut numbers, behind_opening, Some(opening));
     let start = put_before(&mut numbers, opening_at, b" ");
-    text.extend_from_slice(product.name.as_slice())?;
+    text.extend_from_slice(name)?;
     text.extend_from_slice(&numbers[start..])
 }
 
 /// Returns the opening price and the clock price of round 2 of each product of a set-up document,
-/// or the document's fault. May return `Memory`, which then replaces any other result.
+/// or the document's fault. May return `Memory`, which then replaces any other result. Makes no
+/// set-up of a document that is read by bytes: an allocation for each name and token would take a
+/// fifth of the time.
 pub fn prices_answer(alloc: Global, increment: u64, document: &[u8]) -> Result<Text, Fault>
     requires { IsIncrement increment }
     ensures ok { IfOk result
@@ -88,6 +118,11 @@ pub fn prices_answer(alloc: Global, increment: u64, document: &[u8]) -> Result<T
     ensures err { IfErr result
         (IsRefusal Fault.Memory (prices_of increment (document_setup document.now))) }
 {
+    if let Some(products) = scanned_products(alloc, document)? {
+        let text = entries_text(alloc, products.as_slice(), increment);
+        drop(products);
+        return Ok(text?);
+    }
     let setup = setup_in(alloc, document)?;
     let text = prices_text(alloc, setup.products.as_slice(), increment);
     drop(setup);

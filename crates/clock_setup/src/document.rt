@@ -1,7 +1,8 @@
-ghost use Rattle.std.specs.Prelude.{◌≡◌, codes, None, Some, Ok, IfOk, IfErr, OnOk};
+ghost use Rattle.std.specs.Prelude.{◌≡◌, codes, None, Some, Ok, All, IfOk, IfErr, IfSome, OnOk};
 ghost use Rattle.serde_json.specs.View.{view};
 ghost use Rattle.clock_terms.specs.Faults.{IsFirstFault, IsRefusal, first_fault};
-ghost use Rattle.clock_terms.specs.Limits.{SetupFields, IsOfFirstVersion, IsSetup, IsWithin};
+ghost use Rattle.clock_terms.specs.Limits.{SetupFields, IsOfFirstVersion, IsProduct, IsSetup};
+ghost use Rattle.clock_terms.specs.Limits.{IsWithin};
 ghost use Rattle.clock_terms.specs.Limits.{latest_version};
 ghost use Rattle.clock_json.specs.Tree.{number_at};
 ghost use Rattle.clock_setup.specs.SetupShape.{fields_from};
@@ -10,11 +11,11 @@ ghost use Rattle.clock_setup.specs.SetupDocument as document;
 
 use crate::fault::{Place, SetupFault};
 use crate::setup_checks::{
-    check_each, each_within, has_distinct_names, has_distinct_tokens, is_token,
+    check_all, check_each, copied_all, has_distinct_names, has_distinct_tokens, is_token,
 };
 use crate::setup_scan::FoundSetup;
-use crate::setup_tree::{SetupEntries, entries_of};
-use clock_device::Text;
+use crate::setup_tree::{ProductEntry, SetupEntries, entries_of};
+use clock_device::{Items, NoMemory, Text};
 use clock_json::scanned_text;
 use clock_json::tree::{number_at, read_value};
 use clock_terms::{
@@ -24,11 +25,10 @@ use clock_terms::{
 use serde_json::Value;
 use std::alloc::Global;
 
-/// Returns the operator's token, after checking that names and then tokens are distinct. May return
-/// `NoMemory`, which then replaces any other result.
+/// Checks that names and then tokens are distinct. May return `NoMemory`, which then replaces any
+/// other result.
 #[tactic(auto, unfolding(crate::specs::inside::SetupDocument::distinct_checks))]
-fn distinct_operator(alloc: Global, entries: &SetupEntries) -> Result<Text, SetupFault>
-    ensures same { IfOk result (λ operator. operator ≡ entries.now.operator) }
+fn check_distinct(alloc: Global, entries: &SetupEntries) -> Result<(), SetupFault>
     ensures ok { OnOk result (first_fault (distinct_checks entries.now) ≡ None) }
     ensures err { IfErr result
         (IsFirstFault SetupFault.NoMemory (first_fault (distinct_checks entries.now))) }
@@ -41,7 +41,48 @@ fn distinct_operator(alloc: Global, entries: &SetupEntries) -> Result<Text, Setu
     if !has_distinct_tokens(alloc, entries.operator, bidders)? {
         return Err(SetupFault::DuplicateToken);
     }
-    Ok(Text::from_slice(alloc, entries.operator.as_bytes())?)
+    Ok(())
+}
+
+/// Returns the first fault of the limits of a document's entries. May return `NoMemory`, which then
+/// replaces any other result.
+fn check_limits(alloc: Global, entries: &SetupEntries) -> Result<(), SetupFault>
+    requires version { IsWithin 1 latest_version entries.now.version }
+    requires first_version { entries.now.version ≡ 1 → IsOfFirstVersion entries.now }
+    ensures within { OnOk result (IsSetup entries.now) }
+    ensures ok { OnOk result (first_fault (document.setup_checks entries.now) ≡ None) }
+    ensures err { IfErr result
+        (IsFirstFault SetupFault.NoMemory (first_fault (document.setup_checks entries.now))) }
+{
+    let requirement = is_within(LEAST_REQUIREMENT, MOST_REQUIREMENT, entries.requirement);
+    let limit = is_within(LEAST_LIMIT, MOST_LIMIT, entries.limit);
+    check_each(&[
+        (Place::Requirement, requirement),
+        (Place::Limit, limit),
+        (Place::Operator, is_token(entries.operator)),
+    ])?;
+    check_all(Place::Products, MOST_PRODUCTS, &entries.products)?;
+    check_all(Place::Bidders, MOST_BIDDERS, &entries.bidders)?;
+    check_distinct(alloc, entries)?;
+    Ok(())
+}
+
+/// Returns the set-up of entries that are within its limits. May return `NoMemory`.
+fn copied(alloc: Global, entries: &SetupEntries) -> Result<Setup, NoMemory>
+    requires { IsSetup entries.now }
+    ensures { IfOk result (λ setup. setup ≡ entries.now) }
+{
+    let products = copied_all(alloc, &entries.products)?;
+    let bidders = copied_all(alloc, &entries.bidders)?;
+    let operator = Text::from_slice(alloc, entries.operator.as_bytes())?;
+    Ok(Setup {
+        version: entries.version,
+        limit: entries.limit,
+        requirement: entries.requirement,
+        operator,
+        products,
+        bidders,
+    })
 }
 
 /// Returns the set-up of a document's entries, or the first fault of its limits. May return
@@ -54,24 +95,32 @@ pub(crate) fn within_limits(alloc: Global, entries: &SetupEntries) -> Result<Set
     ensures err { IfErr result
         (IsFirstFault SetupFault.NoMemory (first_fault (document.setup_checks entries.now))) }
 {
-    let requirement = is_within(LEAST_REQUIREMENT, MOST_REQUIREMENT, entries.requirement);
-    let limit = is_within(LEAST_LIMIT, MOST_LIMIT, entries.limit);
-    check_each(&[
-        (Place::Requirement, requirement),
-        (Place::Limit, limit),
-        (Place::Operator, is_token(entries.operator)),
-    ])?;
-    let products = each_within(alloc, Place::Products, MOST_PRODUCTS, &entries.products)?;
-    let bidders = each_within(alloc, Place::Bidders, MOST_BIDDERS, &entries.bidders)?;
-    let operator = distinct_operator(alloc, entries)?;
-    Ok(Setup {
-        version: entries.version,
-        limit: entries.limit,
-        requirement: entries.requirement,
-        operator,
-        products,
-        bidders,
-    })
+    check_limits(alloc, entries)?;
+    Ok(copied(alloc, entries)?)
+}
+
+/// Reads a set-up document as [`read_setup`] does, but returns only the products, whose names it
+/// borrows from the document. Returns `None` if the document cannot be read by bytes. Errors: the
+/// first fault of its limits. May return `NoMemory`, which then replaces any other result.
+pub fn scanned_products(
+    alloc: Global,
+    bytes: &[u8],
+) -> Result<Option<Items<ProductEntry<'_>>>, SetupFault>
+    ensures ok { IfOk result (λ found. IfSome found (λ products. (setup : SetupFields)
+        × (document.document_setup bytes.now ≡ Ok setup) × (setup.products ≡ products))) }
+    ensures limits { IfOk result (λ found. IfSome found (All IsProduct)) }
+    ensures err { IfErr result (IsRefusal SetupFault.NoMemory (document.document_setup bytes.now)) }
+{
+    let Some(scanned) = scanned_text::<FoundSetup>(alloc, bytes)? else {
+        return Ok(None);
+    };
+    match check_limits(alloc, &scanned.entries) {
+        Ok(()) => Ok(Some(scanned.entries.products)),
+        Err(fault) => {
+            drop(scanned);
+            Err(fault)
+        }
+    }
 }
 
 /// Reads a set-up document: returns its set-up, or its first fault.

@@ -1,8 +1,8 @@
 ghost use Rattle.std.specs.Prelude.{◌≡◌, ◌∷◌, ℕ, List, Bool, true, false, map, None, IfOk, IfErr};
-ghost use Rattle.std.specs.Prelude.{OnOk};
+ghost use Rattle.std.specs.Prelude.{All, OnOk};
 ghost use Rattle.std.specs.List.{list_all};
 ghost use Rattle.clock_terms.specs.Limits as limits;
-ghost use Rattle.clock_terms.specs.Faults.{IsFirstFault, first_fault, in_turn};
+ghost use Rattle.clock_terms.specs.Faults.{first_fault, in_turn};
 ghost use Rattle.clock_setup.specs.declared.fault.SetupFault.{SetupFault};
 ghost use Rattle.clock_setup.specs.SetupDocument.{product_checks, bidder_checks};
 ghost use Rattle.clock_setup.specs.inside.SetupDocument.{counted_checks, range_check};
@@ -65,6 +65,9 @@ pub(crate) trait LimitedEntry {
     /// The checks of the entry with a number, in order.
     ghost checks: { ℕ → Self → List (SetupFault × Bool) };
 
+    /// The entry is within its limits.
+    ghost fits: { Self → Type 0 };
+
     /// In contracts, an entry within its limits is this value.
     ghost shown: { Self → Self.Whole };
 
@@ -75,13 +78,15 @@ pub(crate) trait LimitedEntry {
     fn name(&self) -> &str
         ensures { result.now ≡ text self.now };
 
-    /// Returns the value of entry number `i`, or its first fault. May return `NoMemory`, which then
-    /// replaces any other result.
-    fn within(&self, alloc: Global, i: u64) -> Result<Self::Whole, SetupFault>
-        ensures same { IfOk result (λ whole. whole ≡ shown self.now) }
-        ensures ok { IfOk result (λ _. first_fault (checks i self.now) ≡ None) }
-        ensures err { IfErr result
-            (IsFirstFault SetupFault.NoMemory (first_fault (checks i self.now))) };
+    /// Returns the first fault of entry number `i`.
+    fn check(&self, i: u64) -> Result<(), SetupFault>
+        ensures ok { OnOk result (first_fault (checks i self.now) ≡ None) }
+        ensures err { IfErr result (λ fault. first_fault (checks i self.now) ≡ Some fault) };
+
+    /// Returns the value of an entry within its limits. May return `NoMemory`.
+    fn copied(&self, alloc: Global) -> Result<Self::Whole, NoMemory>
+        requires { fits self.now }
+        ensures { IfOk result (λ whole. whole ≡ shown self.now) };
 }
 
 #[tactic(auto, unfolding(crate::specs::SetupDocument::product_checks))]
@@ -89,6 +94,8 @@ impl<'v> LimitedEntry for ProductEntry<'v> {
     type Whole = Product;
 
     ghost checks = { product_checks };
+
+    ghost fits = { limits.IsProduct };
 
     ghost shown = { λ entry. entry };
 
@@ -98,7 +105,7 @@ impl<'v> LimitedEntry for ProductEntry<'v> {
         self.name
     }
 
-    fn within(&self, alloc: Global, i: u64) -> Result<Product, SetupFault> {
+    fn check(&self, i: u64) -> Result<(), SetupFault> {
         check_each(&[
             (Place::Name(i), is_name(self.name)),
             (Place::Units(i), is_within(1, MOST_UNITS, self.units)),
@@ -109,7 +116,10 @@ impl<'v> LimitedEntry for ProductEntry<'v> {
                 is_within(1, Price::HIGHEST, self.opening),
             ),
             (Place::Granule(i), is_within(1, MOST_GRANULE, self.granule)),
-        ])?;
+        ])
+    }
+
+    fn copied(&self, alloc: Global) -> Result<Product, NoMemory> {
         let opening = Price::new(self.opening).unwrap();
         Ok(Product {
             name: Text::from_slice(alloc, self.name.as_bytes())?,
@@ -128,6 +138,8 @@ impl<'v> LimitedEntry for BidderEntry<'v> {
 
     ghost checks = { bidder_checks };
 
+    ghost fits = { limits.IsBidder };
+
     ghost shown = { λ entry. entry };
 
     ghost text = { λ bidder. bidder.name };
@@ -136,12 +148,15 @@ impl<'v> LimitedEntry for BidderEntry<'v> {
         self.name
     }
 
-    fn within(&self, alloc: Global, i: u64) -> Result<Bidder, SetupFault> {
+    fn check(&self, i: u64) -> Result<(), SetupFault> {
         check_each(&[
             (Place::BidderName(i), is_name(self.name)),
             (Place::Token(i), is_token(self.token)),
             (Place::Eligibility(i), self.eligibility <= MOST_ELIGIBILITY),
-        ])?;
+        ])
+    }
+
+    fn copied(&self, alloc: Global) -> Result<Bidder, NoMemory> {
         Ok(Bidder {
             name: Text::from_slice(alloc, self.name.as_bytes())?,
             token: Text::from_slice(alloc, self.token.as_bytes())?,
@@ -150,25 +165,37 @@ impl<'v> LimitedEntry for BidderEntry<'v> {
     }
 }
 
-/// Returns the values of all entries, or the first fault. Errors, in this order: a fault of `place`
-/// if there is no entry or more than `most`; the first fault of each entry in turn. May return
-/// `NoMemory`, which then replaces any other result.
-pub(crate) fn each_within<E: LimitedEntry>(
-    alloc: Global,
+/// Returns the first fault of a list of entries. Errors, in this order: a fault of `place` if there
+/// is no entry or more than `most`; the first fault of each entry in turn.
+pub(crate) fn check_all<E: LimitedEntry>(
     place: Place,
     most: u64,
     entries: &[E],
-) -> Result<Items<E::Whole>, SetupFault>
-    ensures same { IfOk result (λ wholes. wholes ≡ map E.shown entries.now) }
-    ensures ok { IfOk result (λ _.
-        first_fault (counted_checks (SetupFault.Range place) most E.checks entries.now) ≡ None) }
-    ensures err { IfErr result (IsFirstFault SetupFault.NoMemory
-        (first_fault (counted_checks (SetupFault.Range place) most E.checks entries.now))) }
+) -> Result<(), SetupFault>
+    ensures ok { OnOk result
+        (first_fault (counted_checks (SetupFault.Range place) most E.checks entries.now) ≡ None) }
+    ensures err { IfErr result (λ fault.
+        first_fault (counted_checks (SetupFault.Range place) most E.checks entries.now)
+        ≡ Some fault) }
 {
     check(is_within(1, most, entries.len() as u64), place)?;
-    let mut wholes = Items::with_capacity(alloc, entries.len())?;
     for (i, entry) in entries.iter().enumerate() {
-        let whole = entry.within(alloc, i as u64)?;
+        entry.check(i as u64)?;
+    }
+    Ok(())
+}
+
+/// Returns the values of entries that are within their limits. May return `NoMemory`.
+pub(crate) fn copied_all<E: LimitedEntry>(
+    alloc: Global,
+    entries: &[E],
+) -> Result<Items<E::Whole>, NoMemory>
+    requires { All E.fits entries.now }
+    ensures { IfOk result (λ wholes. wholes ≡ map E.shown entries.now) }
+{
+    let mut wholes = Items::with_capacity(alloc, entries.len())?;
+    for entry in entries {
+        let whole = entry.copied(alloc)?;
         wholes.push(whole);
     }
     Ok(wholes.into_items())

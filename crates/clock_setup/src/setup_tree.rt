@@ -16,14 +16,21 @@ use serde_json::Value;
 use std::alloc::Global;
 use std::marker::Model;
 
-/// A product as a document states it, before any limit is checked. In contracts, it is a product.
+/// A product as a document states it: it borrows the name, and its limits need not be checked. In
+/// contracts, it is a product. Each field is that of a [`Product`](clock_terms::Product).
 #[derive(Drop)]
-pub(crate) struct ProductEntry<'v> {
+pub struct ProductEntry<'v> {
+    /// The name.
     pub name: &'v str,
+    /// The bidding units of one block.
     pub units: u64,
+    /// The number of blocks.
     pub supply: u64,
+    /// The most blocks that one bidder may ask for.
     pub cap: u64,
+    /// The price of a block in round 1, in whole dollars.
     pub opening: u64,
+    /// The granule, in whole dollars.
     pub granule: u64,
 }
 

@@ -7,4 +7,4 @@ use Rattle.clock_console.proofs.prices.prices_answer.Goals as goal
 
 pub prices_text-text-requires-clause-limits : goal.prices_text-text-requires-clause-limits
 prices_text-text-requires-clause-limits c =
-    subst (λ (list : List Product). All IsProduct list) (sym c.as_slice.ensures) c.setup.invariant.products
+    subst (λ (list : List Product). All IsProduct list) (sym c.as_slice-2.ensures) c.setup.invariant.products

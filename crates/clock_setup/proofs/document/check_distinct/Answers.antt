@@ -7,7 +7,7 @@ use Rattle.clock_terms.specs.Faults.{first_fault}
 use Rattle.clock_setup.specs.declared.fault.SetupFault.TheVariants.{DuplicateToken}
 use Rattle.clock_setup.specs.SetupDocument.{has_distinct_tokens}
 use Rattle.clock_setup.specs.inside.SetupDocument.{distinct_checks}
-use Rattle.clock_setup.proofs.document.distinct_operator.Goals as goal
+use Rattle.clock_setup.proofs.document.check_distinct.Goals as goal
 
 module _ (setup : SetupFields) where
   -- if names are distinct, the tokens decide
