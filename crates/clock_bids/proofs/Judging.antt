@@ -1,33 +1,29 @@
 -- One step of the pass that checks a sheet. If the first bids are good, the last bid before the next one for its
 -- product decides whether that has a fault, and the others decide the first fault after it.
-use Rattle.std.proofs.Common.{◌≡◌, ℕ, ◌+◌, ◌*◌, ◌<◌, ◌≤◌, Bor, List, length, take, drop, refl, ap, ◌∙◌, sym, subst}
-use Rattle.std.proofs.Common.{arith, get_or}
-use Rattle.std.specs.Prelude.{Option, Some, None}
+use Rattle.std.proofs.Common.{◌≡◌, ℕ, ◌+◌, ◌*◌, ◌<◌, ◌≤◌, ◌==◌, Bor, List, [], ◌∷◌, length, take, refl, ap, ◌∙◌}
+use Rattle.std.proofs.Common.{Bool, true, sym, subst, arith, get_or}
+use Rattle.std.specs.Prelude.{Option, Some, None, ◌&&◌, ◌||◌, not, nat_le, slice_index}
 use Rattle.std.specs.Option.{option_copied}
+use Rattle.std.proofs.lemmas.Bool.{lt-ltb, le-leb, eq-eqb}
 use Rattle.std.proofs.lemmas.List.{get_or_default, take_all, drop_all}
 use Rattle.clock_terms.specs.declared.setup.Product.{Product}
 use Rattle.clock_terms.specs.declared.prices.PricePair.{PricePair}
 use Rattle.clock_terms.specs.Eligibility.{activity}
 use Rattle.clock_terms.specs.Faults.{first_fault, in_turn}
-use Rattle.clock_terms.specs.Limits.{most_supply, most_units}
+use Rattle.clock_terms.specs.Limits.{IsRow, cap_of, most_supply, most_units}
+use Rattle.clock_terms.specs.Prices.{prices_at}
 use Rattle.clock_terms.proofs.FaultLaws.{turn_passed, turn_failed}
 use Rattle.clock_bids.specs.declared.sheet.Bid.{Bid}
 use Rattle.clock_bids.specs.declared.sheet.BidFault.{BidFault}
+use Rattle.clock_bids.specs.declared.sheet.BidFault.TheVariants.{UnknownProduct, PriceRange, OverCap, KeepPrice}
 use Rattle.clock_bids.specs.Sheet.{asked_demands, bid_checks}
-use Rattle.clock_bids.specs.inside.Parts.{checks_of_bids}
-use Rattle.clock_bids.specs.inside.Chains.{AreGoodChains, last_bids, quantity_of, checks_by_last}
+use Rattle.clock_bids.specs.inside.Parts.{checks_of_bids, is_for_product, is_in_prices, is_within_cap}
+use Rattle.clock_bids.specs.inside.Chains.{last_bids, quantity_of, checks_by_last}
+use Rattle.clock_bids.specs.inside.Judged.{AreJudged, AreJudgedBelow}
 use Rattle.clock_bids.proofs.Tables.{no_bid}
+use Rattle.clock_bids.proofs.LastBids.{none_below, below_more}
 use Rattle.clock_bids.proofs.Good.{no_activity, good_chains-nil, judged_by, good_chains-more, known_here}
 use Rattle.clock_bids.proofs.Activity.{held_least, taken_more, units_read}
-
--- the first `place` bids are good and request this activity, and the others decide the first fault
-pub record AreJudged (products : List Product) (prices : List PricePair) (demands : List ℕ) (bids : List Bid)
-    (place taken : ℕ) : Type 0 where
-  pub good : AreGoodChains products prices demands (take place bids)
-  pub taken_is : taken ≡ activity products (asked_demands (length products) (take place bids))
-  pub small : taken ≤ most_units * most_supply * place
-  pub ahead : first_fault (in_turn (λ i bid. bid_checks products prices demands (take i bids) i bid) place
-      (drop place bids)) ≡ first_fault (checks_of_bids products prices demands bids)
 
 -- at first no bid has been checked
 pub none_judged : (products : List Product) (prices : List PricePair) (demands : List ℕ) (bids : List Bid)
@@ -99,3 +95,57 @@ module _ (products : List Product) (prices : List PricePair) (demands : List ℕ
           ahead = sym (turn_passed (λ i bid. bid_checks products prices demands (take i bids) i bid) bids i here within
               (get_or_default bids i no_bid here within) (is.fault_is ∙ none)) ∙ so_far.ahead;
         }
+
+-- if four checks pass, none has a fault
+all_pass : {F : Type 0} (fa fb fc fd : F) (a b c d : Bool) → a ≡ true → b ≡ true → c ≡ true → d ≡ true
+    → None ≡ first_fault ((fa, a) ∷ (fb, b) ∷ (fc, c) ∷ (fd, d) ∷ [])
+all_pass fa fb fc fd a b c d pa pb pc pd =
+    sym (ap (λ t. first_fault ((fa, t) ∷ (fb, b) ∷ (fc, c) ∷ (fd, d) ∷ [])) pa
+    ∙ ap (λ t. first_fault ((fb, t) ∷ (fc, c) ∷ (fd, d) ∷ [])) pb
+    ∙ ap (λ t. first_fault ((fc, t) ∷ (fd, d) ∷ [])) pc
+    ∙ ap (λ t. first_fault ((fd, t) ∷ [])) pd)
+
+both_hold : (a b : Bool) → a ≡ true → b ≡ true → (a && b) ≡ true
+both_hold a b pa pb = ap (λ t. t && b) pa ∙ pb
+
+-- a first bid for a product that maintains its demand at the clock price has no fault
+pub maintained_passes : (products : List Product) (prices : List PricePair) (demands : List ℕ) (i : ℕ) (bid : Bid)
+    → IsRow products demands → bid.product < length products → bid.quantity ≡ slice_index demands bid.product
+    → bid.price ≡ (prices_at prices bid.product).clock → (prices_at prices bid.product).start ≤ bid.price
+    → None ≡ first_fault (checks_by_last products prices demands None i bid)
+maintained_passes products prices demands i bid row known maintained at_clock from_start =
+    let pair = prices_at prices bid.product in
+    let held = slice_index demands bid.product in
+    let capped = row.capped bid.product (omega (arith, known, row.each)) in
+    all_pass (UnknownProduct i) (PriceRange i) (OverCap i) (KeepPrice i) (is_for_product products bid)
+    (is_in_prices prices bid) (is_within_cap products bid) (not (bid.quantity == held) || (bid.price == pair.clock))
+    (lt-ltb bid.product (length products) known)
+    (both_hold (nat_le pair.start bid.price) (nat_le bid.price pair.clock) (le-leb pair.start bid.price from_start)
+    (le-leb bid.price pair.clock (omega (arith, at_clock))))
+    (le-leb bid.quantity (cap_of products bid.product) (omega (arith, maintained, capped)))
+    (ap (λ t. not t || (bid.price == pair.clock)) (eq-eqb bid.quantity held maintained)
+    ∙ eq-eqb bid.price pair.clock at_clock)
+
+-- with such a bid, one more is judged
+pub judged-maintained : (products : List Product) (prices : List PricePair) (demands : List ℕ) (bids : List Bid)
+    (i least taken : ℕ) (seen : List Product) (one : Product) (next : ℕ)
+    → AreJudgedBelow products prices demands bids i least taken → i < length bids → seen ≡ products
+    → IsRow products demands → (get_or bids i no_bid).product < length products
+    → least ≤ (get_or bids i no_bid).product
+    → (get_or bids i no_bid).quantity ≡ slice_index demands (get_or bids i no_bid).product
+    → (get_or bids i no_bid).price ≡ (prices_at prices (get_or bids i no_bid).product).clock
+    → (prices_at prices (get_or bids i no_bid).product).start ≤ (get_or bids i no_bid).price
+    → next ≡ taken + (get_or seen (get_or bids i no_bid).product one).units * (get_or bids i no_bid).quantity
+    → next ≤ taken + most_units * most_supply
+    → AreJudgedBelow products prices demands bids (i + 1) ((get_or bids i no_bid).product + 1) next
+judged-maintained products prices demands bids i least taken seen one next so_far within same row known new
+    maintained at_clock from_start is most =
+    let bid = get_or bids i no_bid in
+    let before = none_below (length seen) least bid.product (take i bids) so_far.below new in
+    let passes = maintained_passes products prices demands i bid row known maintained at_clock from_start
+    ∙ ap (λ list. first_fault (checks_by_last list prices demands None i bid)) (sym same) in
+    record {
+      judged = judged_more products prices demands bids i taken so_far.judged within seen None None same before passes
+          refl one next (omega (arith, is)) most;
+      below = below_more bids i least (bid.product + 1) within (omega (arith, new)) (omega arith) so_far.below;
+    }

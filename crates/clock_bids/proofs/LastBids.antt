@@ -143,11 +143,11 @@ module _ (bids : List Bid) (places : List ℕ) (product : ℕ) where
   some_place place i found within is some before lookup same =
       copied found i lookup same ∙ sym (at_place place i some before) ∙ sym (in_table place within is)
 
--- a table before a bid is one before the next bid too
-pub table_later : (products : List Product) (bids : List Bid) (place placed : ℕ) (places : List ℕ)
-    → IsTableBefore (length products) bids place placed places
-    → IsTableBefore (length products) bids (place + 1) placed places
-table_later products bids place placed places before = record {
-  order = omega (arith, before.order);
+-- a table before a bid is one before each later bid too
+pub table_later : (products : List Product) (bids : List Bid) (place later placed : ℕ) (places : List ℕ)
+    → place ≤ later → IsTableBefore (length products) bids place placed places
+    → IsTableBefore (length products) bids later placed places
+table_later products bids place later placed places on before = record {
+  order = omega (arith, on, before.order);
   table = before.table;
 }

@@ -9,7 +9,9 @@ ghost use Rattle.clock_bids.specs.Sheet.{IsGoodSheet, asked_demands, most_bids, 
 ghost use Rattle.clock_bids.specs.inside.Chains.{bid_at, checks_by_last, last_bids, quantity_of};
 ghost use Rattle.clock_bids.specs.inside.LastBids.{AreLastPlaces, IsTableBefore};
 
+use crate::maintained::{Judged, judge_maintained, next_from};
 use crate::sheet::{Bid, BidFault, Own, Sheet};
+use crate::sheet_changes::first_held;
 use clock_device::{Items, NoMemory};
 use clock_terms::{PricePair, Prices, Product, Row, Setup};
 use std::alloc::Global;
@@ -111,9 +113,10 @@ fn check_bids(
 /// in bidding units. May return `NoMemory`, which then replaces any other result.
 ///
 /// Most sheets list products in rising order: a bid for a higher product than all before it has no
-/// earlier bid. Most other bids directly follow a bid for their product. The table of last bids is
-/// made for any other bid, and nothing is allocated before. The last earlier bid is enough: since
-/// the earlier ones passed, their prices rise and their quantities move in one direction.
+/// earlier bid. Most of these maintain demand, and [`judge_maintained`] checks them. Most other
+/// bids directly follow a bid for their product. The table of last bids is made for any other bid,
+/// and nothing is allocated before. The last earlier bid is enough: since the earlier ones passed,
+/// their prices rise and their quantities move in one direction.
 fn judge(
     alloc: Global,
     setup: &Setup,
@@ -133,13 +136,21 @@ fn judge(
 {
     let products = setup.products.as_slice();
     let mut near = 0;
-    let mut taken: u64 = 0;
-    let mut least: u64 = 0;
+    let mut held = demands.held();
+    let mut next = first_held(&mut held, products.len());
+    let mut judged = Judged {
+        count: 0,
+        least: 0,
+        taken: 0,
+    };
     let mut table = LastPlaces {
         placed: 0,
         places: Vec::new(alloc),
     };
-    for (i, bid) in bids.iter().enumerate() {
+    'bids: while judged.count < bids.len() {
+        let i = judged.count;
+        let bid = &bids[i];
+        let mut least = judged.least;
         let last = if bid.product >= least {
             // The highest number wraps to 0. No product has it, so `bid_fault` refuses the bid.
             least = bid.product.wrapping_add(1);
@@ -151,14 +162,20 @@ fn judge(
             return Err(fault);
         }
         let units = products[bid.product as usize].units;
-        taken = taken_with(taken, units, last, bid.quantity);
+        let after = Judged {
+            count: i + 1,
+            least,
+            taken: taken_with(judged.taken, units, last, bid.quantity),
+        };
+        next = next_from(&mut held, next, least, products.len());
+        judged = judge_maintained(setup, prices, &mut held, &mut next, bids, after);
     }
-    Ok(taken)
+    Ok(judged.taken)
 }
 
 /// Returns the activity when `quantity` blocks, of `units` bidding units each, replace those of the
 /// last bid for a product, if there is one.
-fn taken_with(taken: u64, units: u64, last: Option<&Bid>, quantity: u64) -> u64
+pub(crate) fn taken_with(taken: u64, units: u64, last: Option<&Bid>, quantity: u64) -> u64
     requires units { units ≤ most_units }
     requires quantity { quantity ≤ most_supply }
     requires taken { taken ≤ most_units * most_supply * most_bids }

@@ -1,0 +1,1 @@
+-- Each turn visits a later product.
