@@ -9,8 +9,7 @@ use Rattle.clock_device.specs.Streams.{HasRead, HasWritten, HasWrittenFront, IsR
 use Rattle.clock_device.proofs.Streams.{read_twice, written_twice}
 use Rattle.clock_journal.specs.Disks.{Moment, Passes}
 use Rattle.clock_journal.specs.Mirrors.{DiskState, IsOnWay, IsPrefix, RunsTo}
-use Rattle.clock_journal.specs.Sources.{HasBytes}
-use Rattle.clock_journal.specs.inside.Leveling.{IsCopied}
+use Rattle.clock_journal.specs.inside.Leveling.{AreCopied, IsCopied, IsCopying}
 use Rattle.clock_journal.proofs.Mirrored.{before_more, before_rest, itself, known_all, known_front, prefix_of}
 use Rattle.clock_journal.proofs.Moments.{all_is_front}
 use Rattle.clock_journal.proofs.Sourced.{all_of, has_any, has_read, rest_of}
@@ -148,11 +147,6 @@ longer_copy before missing bytes more =
     ∙ ap (λ (b : List ℕ). before ++ b) (append_assoc missing bytes more) in
     subst (IsPrefix (before ++ (missing ++ bytes))) all (before_more (before ++ (missing ++ bytes)) more)
 
--- a disk that is on its way to all bytes of a source
-abbrev pub IsCopying : Option (List ℕ) → List ℕ → DiskState → DiskState → Type 0
-IsCopying source missing old new = (rest : List ℕ) × HasBytes source rest
-    × ((bytes : List ℕ) → RunsTo bytes (bytes ++ (missing ++ rest)) old new)
-
 -- nothing was read yet, and a prefix of what is missing was appended
 pub first_fails : (source : Option (List ℕ)) (missing : List ℕ) (old new : DiskState)
     → HasWrittenFront old.written new.written missing → Passes old.moments new.moments old.synced new.written
@@ -195,7 +189,7 @@ on_ok Holds (Err failed) is = tt
 module _ (old_source source : Option (List ℕ)) (missing : List ℕ) (old mid new : DiskState)
     (copied : IsCopied old_source source missing old mid) (out : IsReadOut source)
     (same : new.written ≡ mid.written) where
-  pub copy_ends : (rest : List ℕ) × HasBytes old_source rest × HasWritten old.written new.written (missing ++ rest)
+  pub copy_ends : AreCopied old_source missing old.written new.written
   copy_ends = (
     copied.bytes,
     all_of old_source source copied.bytes copied.read out,

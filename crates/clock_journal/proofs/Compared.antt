@@ -1,6 +1,6 @@
 -- Two sources that are read piece by piece, as long as they have the same bytes.
-use Rattle.std.proofs.Common.{◌≡◌, ◌≤◌, ◌<◌, ◌+◌, ◌++◌, ℕ, List, Option, length, take, get_or, sym, ap, ◌∙◌}
-use Rattle.std.proofs.Common.{subst, arith, length-append}
+use Rattle.std.proofs.Common.{◌≡◌, ◌≤◌, ◌<◌, ◌+◌, ◌++◌, ◌⊎◌, inl, inr, ℕ, List, Option, length, take, get_or, sym, ap}
+use Rattle.std.proofs.Common.{◌∙◌, subst, arith, length-append}
 use Rattle.std.specs.Prelude.{min}
 use Rattle.std.proofs.lemmas.List.{get_or_append_left, get_or-append-add, take-append-le, take_all}
 use Rattle.std.proofs.Math.Seq.{take-append-add}
@@ -50,50 +50,88 @@ place_of common here there rest others_rest k is less others_less =
       in_other = in_other;
     }
 
--- the next pieces were read of both
-module _ (old mid new others_old others_mid others_new : Option (List ℕ)) (place : ℕ) (here there : List ℕ)
-    (same : AreSame old mid others_old others_mid place) (more : HasRead mid new here)
-    (others_more : HasRead others_mid others_new there) where
-  abbrev read : HasRead old new (same.common ++ here)
-  read = read_twice old mid new same.common here same.read more
+-- the next pieces were read of both, of these sizes, and have this many bytes in common
+pub record ArePieces (old new others_old others_new : Option (List ℕ)) (place k : ℕ) (here there : List ℕ)
+    (count limit : ℕ) : Type 0 where
+  pub before : List ℕ
+  pub read : HasRead old new (before ++ here)
+  pub other_read : HasRead others_old others_new (before ++ there)
+  pub place_is : place ≡ length before
+  pub common : IsCommon here there k
+  pub size : length here ≡ count
+  pub other_size : length there ≡ limit
 
-  abbrev others_read : HasRead others_old others_new (same.common ++ there)
-  others_read = read_twice others_old others_mid others_new same.common there same.other_read others_more
+pub next_pieces : (old mid new others_old others_mid others_new : Option (List ℕ)) (place k : ℕ) (here there : List ℕ)
+    (count limit : ℕ) → AreSame old mid others_old others_mid place → HasRead mid new here
+    → HasRead others_mid others_new there → IsCommon here there k → length here ≡ count → length there ≡ limit
+    → ArePieces old new others_old others_new place k here there count limit
+next_pieces old mid new others_old others_mid others_new place k here there count limit same more others_more common
+    size other_size = record {
+      before = same.common;
+      read = read_twice old mid new same.common here same.read more;
+      other_read = read_twice others_old others_mid others_new same.common there same.other_read others_more;
+      place_is = same.place_is;
+      common = common;
+      size = size;
+      other_size = other_size;
+    }
 
-  pub further : (next k : ℕ) → next ≡ place + k → k ≡ length here → k ≡ length there → IsCommon here there k
-      → AreSame old new others_old others_new next
-  further next k next_is whole others_whole common =
-      let equal : here ≡ there = sym (take_all k here (omega (arith, whole)))
-      ∙ (common.same ∙ take_all k there (omega (arith, others_whole))) in
+module _ {old new others_old others_new : Option (List ℕ)} {place k : ℕ} {here there : List ℕ} {count limit : ℕ}
+    (pieces : ArePieces old new others_old others_new place k here there count limit) where
+  -- both pieces are whole and the same
+  pub further : (next whole : ℕ) → next ≡ place + k → whole ≤ count → whole ≤ limit → count ≤ whole → limit ≤ whole
+      → min count limit ≤ k → AreSame old new others_old others_new next
+  further next whole next_is full others_full within others_within many =
+      let size = pieces.size in
+      let other_size = pieces.other_size in
+      let in_one = pieces.common.in_one in
+      let is_here : k ≡ length here = omega (arith, size, in_one, full, others_full, within, others_within, many) in
+      let is_there : k ≡ length there =
+      omega (arith, is_here, size, other_size, full, within, others_full, others_within) in
+      let equal : here ≡ there = sym (take_all k here (omega (arith, is_here)))
+      ∙ (pieces.common.same ∙ take_all k there (omega (arith, is_there))) in
       record {
-        common = same.common ++ here;
-        read = read;
-        other_read = subst (λ (b : List ℕ). HasRead others_old others_new (same.common ++ b)) (sym equal) others_read;
-        place_is = omega (arith, next_is, whole, same.place_is, length-append same.common here);
+        common = pieces.before ++ here;
+        read = pieces.read;
+        other_read = subst (λ (b : List ℕ). HasRead others_old others_new (pieces.before ++ b)) (sym equal)
+            pieces.other_read;
+        place_is = omega (arith, next_is, is_here, pieces.place_is, length-append pieces.before here);
       }
 
-  pub differ : (k : ℕ) → IsCommon here there k → k < length here → k < length there
-      → (bytes : Bytes old others_old) × IsPlace bytes.one bytes.other (place + k)
-  differ k common less others_less = (
+  pub differ : k < min count limit → (bytes : Bytes old others_old) × IsPlace bytes.one bytes.other (place + k)
+  differ less = (
     record {
-      one = (same.common ++ here) ++ rest_of new;
-      other = (same.common ++ there) ++ rest_of others_new;
-      of_first = has_read old new (same.common ++ here) read;
-      of_second = has_read others_old others_new (same.common ++ there) others_read;
+      one = (pieces.before ++ here) ++ rest_of new;
+      other = (pieces.before ++ there) ++ rest_of others_new;
+      of_first = has_read old new (pieces.before ++ here) pieces.read;
+      of_second = has_read others_old others_new (pieces.before ++ there) pieces.other_read;
     },
-    subst (IsPlace ((same.common ++ here) ++ rest_of new) ((same.common ++ there) ++ rest_of others_new))
-        (ap (λ (n : ℕ). n + k) (sym same.place_is))
-        (place_of same.common here there (rest_of new) (rest_of others_new) k common less others_less),
+    subst (IsPlace ((pieces.before ++ here) ++ rest_of new) ((pieces.before ++ there) ++ rest_of others_new))
+        (ap (λ (n : ℕ). n + k) (sym pieces.place_is))
+        (place_of pieces.before here there (rest_of new) (rest_of others_new) k pieces.common
+        (omega (arith, less, pieces.size)) (omega (arith, less, pieces.other_size))),
   )
 
-  pub ends : take (min (length here) (length there)) here ≡ take (min (length here) (length there)) there
-      → (length here ≤ length there → IsReadOut new) → (length there ≤ length here → IsReadOut others_new)
-      → HaveEnds old new others_old others_new here there
-  ends equal out others_out = record {
-    common = same.common;
-    read = read;
-    other_read = others_read;
-    same = equal;
-    out = out;
-    other_out = others_out;
-  }
+  -- one piece, or both, are shorter than a whole one
+  pub ends : (whole : ℕ) → min count limit ≤ k → (count < whole) ⊎ (limit < whole) → (count < whole → IsReadOut new)
+      → (limit < whole → IsReadOut others_new) → HaveEnds old new others_old others_new here there
+  ends whole many some out others_out =
+      let size = pieces.size in
+      let other_size = pieces.other_size in
+      let common = pieces.common in
+      let all : k ≡ min (length here) (length there) =
+      omega (arith, size, other_size, many, common.in_one, common.in_other) in
+      record {
+        common = pieces.before;
+        read = pieces.read;
+        other_read = pieces.other_read;
+        same = subst (λ (n : ℕ). take n here ≡ take n there) all common.same;
+        out = λ few. out (elim some [
+          | inl short ↦ short
+          | inr short ↦ omega (arith, few, size, other_size, short)
+        ]);
+        other_out = λ few. others_out (elim some [
+          | inl short ↦ omega (arith, few, size, other_size, short)
+          | inr short ↦ short
+        ]);
+      }

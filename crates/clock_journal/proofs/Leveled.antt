@@ -5,11 +5,11 @@ use Rattle.std.specs.Prelude.{min, if◌then◌else◌, option_map}
 use Rattle.std.proofs.lemmas.List.{take_all, take_at, drop_all, drop-take, append-nil, take-append-drop}
 use Rattle.std.proofs.lemmas.Bool.{cases_lt}
 use Rattle.std.proofs.lemmas.List.Elements.{All-nil}
-use Rattle.clock_device.specs.Streams.{HasRead, HasWritten}
+use Rattle.clock_device.specs.Streams.{HasRead}
 use Rattle.clock_journal.specs.Disks.{Moment}
 use Rattle.clock_journal.specs.Levels.{AreSeen, Bytes, IsNotLevel}
-use Rattle.clock_journal.specs.inside.Leveling.{Differ, HaveEnds}
-use Rattle.clock_journal.specs.Mirrors.{DiskState, IsOnWay, IsPrefix, IsWithin, RunsTo, longer, shorter}
+use Rattle.clock_journal.specs.inside.Leveling.{AreCopied, Differ, HaveEnds, IsCopying}
+use Rattle.clock_journal.specs.Mirrors.{AreAlike, DiskState, IsOnWay, IsPrefix, RunsTo, longer, shorter}
 use Rattle.clock_journal.specs.Sources.{HasBytes}
 use Rattle.clock_journal.specs.declared.mirror.LevelFault.{LevelFault}
 use Rattle.clock_journal.specs.declared.mirror.LevelFault.TheVariants as fault
@@ -110,7 +110,31 @@ stays disk bytes all is = ([], stays_so disk.moments, All-nil (IsOnWay disk.sync
 
 -- ---- at the end
 
--- the two files were compared, and the last pieces are these
+-- if a disk has these bytes, what is missing, and what a source still has, makes all
+pub record Lacks (written source : Option (List ℕ)) (bytes missing all : List ℕ) : Type 0 where
+  pub makes : written ≡ Some bytes → (rest : List ℕ) → HasBytes source rest → bytes ++ (missing ++ rest) ≡ all
+
+module _ {written source : Option (List ℕ)} {bytes missing all : List ℕ}
+    (lacks : Lacks written source bytes missing all) where
+  pub whole : (new : Option (List ℕ)) → AreCopied source missing written new → written ≡ Some bytes → new ≡ Some all
+  whole new (rest, has, writes) is =
+      known_all written new bytes (missing ++ rest) is writes ∙ ap Some (lacks.makes is rest has)
+
+  pub runs : (old new : DiskState) → old.written ≡ written → IsCopying source missing old new
+      → RunsTo bytes all old new
+  runs old new same (rest, has, way) is =
+      subst (λ (to : List ℕ). RunsTo bytes to old new) (lacks.makes (sym same ∙ is) rest has) (way bytes) is
+
+-- two files were compared, and the disks of these lack what is missing, and what is lacking
+pub record AreCompared (s_old s_new t_old t_new first second : Option (List ℕ)) (missing lacking : List ℕ) : Type 0
+  where
+    pub seen : AreSeen first second s_old t_old
+    pub bytes : Bytes s_old t_old
+    pub front : IsPrefix (shorter bytes.one bytes.other) (longer bytes.one bytes.other)
+    pub first_lacks : Lacks first t_new bytes.one missing (longer bytes.one bytes.other)
+    pub second_lacks : Lacks second s_new bytes.other lacking (longer bytes.one bytes.other)
+
+-- the last pieces are these
 module _ (s_old s_new t_old t_new : Option (List ℕ)) (here there : List ℕ)
     (ends : HaveEnds s_old s_new t_old t_new here there) where
   abbrev m : ℕ
@@ -122,7 +146,7 @@ module _ (s_old s_new t_old t_new : Option (List ℕ)) (here there : List ℕ)
   abbrev lacking : List ℕ
   lacking = drop m here ++ rest_of s_new
 
-  abbrev pub bytes : Bytes s_old t_old
+  abbrev bytes : Bytes s_old t_old
   bytes = record {
     one = (ends.common ++ here) ++ rest_of s_new;
     other = (ends.common ++ there) ++ rest_of t_new;
@@ -150,74 +174,60 @@ module _ (s_old s_new t_old t_new : Option (List ℕ)) (here there : List ℕ)
         (joined ends.common here there (rest_of s_new) (rest_of t_new) m same empty)))
   ]
 
-  pub whole_front : IsPrefix (shorter bytes.one bytes.other) (longer bytes.one bytes.other)
-  whole_front = makes.front
-
-  -- what the code appends to each disk, and then what each source still has
+  -- of what a disk lacks, the code appends these bytes, and then what a source still has
   module _ (first second : Option (List ℕ)) (seen : AreSeen first second s_old t_old) (first_missing
-      second_missing first_rest second_rest : List ℕ) (first_is : first_missing ≡ drop m there)
-      (second_is : second_missing ≡ drop m here) (first_has : HasBytes t_new first_rest)
-      (second_has : HasBytes s_new second_rest) where
-    first_all : first ≡ Some bytes.one → first_missing ++ first_rest ≡ missing
-    first_all is = elim seen [
-      | inl known ↦ (ap (λ (b : List ℕ). b ++ first_rest) first_is
-          ∙ ap (λ (b : List ℕ). drop m there ++ b)
-          (seen_rest t_old t_new (ends.common ++ there) first_rest known.1 known.5 ends.other_read first_has))
-      | inr none ↦ (let e : None ≡ Some bytes.one = sym none.0 ∙ is in cc)
-    ]
+      second_missing : List ℕ) (first_is : first_missing ≡ drop m there) (second_is : second_missing ≡ drop m here)
+    where
+      first_all : (rest : List ℕ) → HasBytes t_new rest → first ≡ Some bytes.one → first_missing ++ rest ≡ missing
+      first_all rest has is = elim seen [
+        | inl known ↦ (ap (λ (b : List ℕ). b ++ rest) first_is
+            ∙ ap (λ (b : List ℕ). drop m there ++ b)
+            (seen_rest t_old t_new (ends.common ++ there) rest known.1 known.5 ends.other_read has))
+        | inr none ↦ (let e : None ≡ Some bytes.one = sym none.0 ∙ is in cc)
+      ]
 
-    second_all : second ≡ Some bytes.other → second_missing ++ second_rest ≡ lacking
-    second_all is = elim seen [
-      | inl known ↦ (ap (λ (b : List ℕ). b ++ second_rest) second_is
-          ∙ ap (λ (b : List ℕ). drop m here ++ b)
-          (seen_rest s_old s_new (ends.common ++ here) second_rest known.0 known.4 ends.read second_has))
-      | inr none ↦ (let e : None ≡ Some bytes.other = sym none.1 ∙ is in cc)
-    ]
+      second_all : (rest : List ℕ) → HasBytes s_new rest → second ≡ Some bytes.other → second_missing ++ rest ≡ lacking
+      second_all rest has is = elim seen [
+        | inl known ↦ (ap (λ (b : List ℕ). b ++ rest) second_is
+            ∙ ap (λ (b : List ℕ). drop m here ++ b)
+            (seen_rest s_old s_new (ends.common ++ here) rest known.0 known.4 ends.read has))
+        | inr none ↦ (let e : None ≡ Some bytes.other = sym none.1 ∙ is in cc)
+      ]
 
-    pub runs_first : (old new : DiskState) → old.written ≡ first
-        → RunsTo bytes.one (bytes.one ++ (first_missing ++ first_rest)) old new
-        → RunsTo bytes.one (longer bytes.one bytes.other) old new
-    runs_first old new same runs is =
-        subst (λ (to : List ℕ). RunsTo bytes.one to old new)
-        (ap (λ (b : List ℕ). bytes.one ++ b) (first_all (sym same ∙ is)) ∙ makes.one_makes) runs is
+      pub compared : AreCompared s_old s_new t_old t_new first second first_missing second_missing
+      compared = record {
+        seen = seen;
+        bytes = bytes;
+        front = makes.front;
+        first_lacks = record {
+          makes = λ is rest has.
+              ap (λ (b : List ℕ). bytes.one ++ b) (first_all rest has is) ∙ makes.one_makes;
+        };
+        second_lacks = record {
+          makes = λ is rest has.
+              ap (λ (b : List ℕ). bytes.other ++ b) (second_all rest has is) ∙ makes.other_makes;
+        };
+      }
 
-    pub runs_second : (old new : DiskState) → old.written ≡ second
-        → RunsTo bytes.other (bytes.other ++ (second_missing ++ second_rest)) old new
-        → RunsTo bytes.other (longer bytes.one bytes.other) old new
-    runs_second old new same runs is =
-        subst (λ (to : List ℕ). RunsTo bytes.other to old new)
-        (ap (λ (b : List ℕ). bytes.other ++ b) (second_all (sym same ∙ is)) ∙ makes.other_makes) runs is
-
-    pub whole_first : (new : Option (List ℕ)) → HasWritten first new (first_missing ++ first_rest)
-        → first ≡ Some bytes.one → new ≡ Some (longer bytes.one bytes.other)
-    whole_first new writes is =
-        known_all first new bytes.one (first_missing ++ first_rest) is writes
-        ∙ ap Some (ap (λ (b : List ℕ). bytes.one ++ b) (first_all is) ∙ makes.one_makes)
-
-    whole_second : (new : Option (List ℕ)) → HasWritten second new (second_missing ++ second_rest)
-        → second ≡ Some bytes.other → new ≡ Some (longer bytes.one bytes.other)
-    whole_second new writes is =
-        known_all second new bytes.other (second_missing ++ second_rest) is writes
-        ∙ ap Some (ap (λ (b : List ℕ). bytes.other ++ b) (second_all is) ∙ makes.other_makes)
-
-    pub alike : (first_new second_new first_synced second_synced : Option (List ℕ))
-        → HasWritten first first_new (first_missing ++ first_rest)
-        → HasWritten second second_new (second_missing ++ second_rest) → (first ≡ None → first_new ≡ None)
-        → (second ≡ None → second_new ≡ None) → first_synced ≡ first_new → second_synced ≡ second_new
-        → (first_new ≡ second_new) × (first_synced ≡ second_synced) × IsWithin first_synced first_new
-    alike first_new second_new first_synced second_synced writes others unseen others_unseen now others_now =
-        let same : first_new ≡ second_new = elim seen [
-          | inl known ↦ (whole_first first_new writes (known.2
-              ∙ ap Some (seen_bytes s_old bytes.one known.0 known.4 bytes.of_first))
-              ∙ sym (whole_second second_new others (known.3
-              ∙ ap Some (seen_bytes t_old bytes.other known.1 known.5 bytes.of_second))))
-          | inr none ↦ (unseen none.0 ∙ sym (others_unseen none.1))
-        ] in (
-          same,
-          now ∙ (same ∙ sym others_now),
-          λ least whole is written. let e = ap length (some_is first_new least whole (sym now ∙ is) written) in
-              omega (arith, e),
-        )
+pub alike : {s_old s_new t_old t_new first second : Option (List ℕ)} {missing lacking : List ℕ}
+    (files : AreCompared s_old s_new t_old t_new first second missing lacking) (first_new second_new : DiskState)
+    → AreCopied t_new missing first first_new.written → AreCopied s_new lacking second second_new.written
+    → (first ≡ None → first_new.written ≡ None) → (second ≡ None → second_new.written ≡ None)
+    → first_new.synced ≡ first_new.written → second_new.synced ≡ second_new.written → AreAlike first_new second_new
+alike files first_new second_new copied others unseen others_unseen now others_now =
+    let bytes = files.bytes in
+    let same : first_new.written ≡ second_new.written = elim files.seen [
+      | inl known ↦ (whole files.first_lacks first_new.written copied (known.2
+          ∙ ap Some (seen_bytes _ bytes.one known.0 known.4 bytes.of_first))
+          ∙ sym (whole files.second_lacks second_new.written others (known.3
+          ∙ ap Some (seen_bytes _ bytes.other known.1 known.5 bytes.of_second))))
+      | inr none ↦ (unseen none.0 ∙ sym (others_unseen none.1))
+    ] in (
+      same,
+      now ∙ (same ∙ sym others_now),
+      λ least all is written. let e = ap length (some_is first_new.written least all (sym now ∙ is) written) in
+          omega (arith, e),
+    )
 
 -- ---- at a fault
 

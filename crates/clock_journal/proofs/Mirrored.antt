@@ -8,17 +8,15 @@ use Rattle.std.proofs.lemmas.Bool.{cases_lt, or_parts}
 use Rattle.std.proofs.Math.Seq.{take-append-add}
 use Rattle.clock_device.specs.Streams.{HasWritten, HasWrittenFront, WritesText}
 use Rattle.clock_journal.specs.Disks.{CutsTo, MayBeLeft, Moment, Passes}
-use Rattle.clock_journal.specs.Mirrors.{DiskState, IsPartOf, IsPrefix, IsUnder, IsWithin}
+use Rattle.clock_journal.specs.Mirrors.{AreAlike, DiskState, IsPartOf, IsPrefix, IsUnder}
 use Rattle.clock_journal.specs.Mirrors.{LeftOfTwo, MirrorState, MirrorsKeep, RestUnder, RunUnder, RunsUnder, at_rest}
 use Rattle.clock_journal.specs.Mirrors.{StartsKeep, joined, longer, shorter}
 use Rattle.clock_journal.proofs.Moments.{all_is_front}
 use Rattle.clock_journal.proofs.Tested.{lt_true, lt_false}
 
--- until a call fails, both have the same bytes, and the same of them are synced
-abbrev AreAlike : DiskState → DiskState → Type 0
-AreAlike first second = first.has_failed ≡ false → second.has_failed ≡ false
-    → (first.written ≡ second.written) × (first.synced ≡ second.synced)
-    × IsWithin first.synced first.written
+-- until a call fails, both are alike
+abbrev StayAlike : DiskState → DiskState → Type 0
+StayAlike first second = first.has_failed ≡ false → second.has_failed ≡ false → AreAlike first second
 
 -- while the longer file is copied: of the copy any prefix is left, and of the file what a disk
 -- leaves. The longer of these is again what the disk of the file may leave
@@ -241,7 +239,7 @@ record IsKnown (at : MirrorState) (w s : List ℕ) : Type 0 where
   pub within : length s ≤ length w
 
 known_alike : (at : MirrorState) (w s : List ℕ) → (at.first.has_failed || at.second.has_failed) ≡ false
-    → AreAlike at.first at.second → at.first.written ≡ Some w → at.first.synced ≡ Some s → IsKnown at w s
+    → StayAlike at.first at.second → at.first.written ≡ Some w → at.first.synced ≡ Some s → IsKnown at w s
 known_alike at w s unfailed alike written synced =
     let both = or_parts at.first.has_failed at.second.has_failed unfailed in
     let same = alike both.0 both.1 in
@@ -255,7 +253,7 @@ known_alike at w s unfailed alike written synced =
 
 -- the first disk failed to append
 module _ (at : MirrorState) (unfailed : (at.first.has_failed || at.second.has_failed) ≡ false)
-    (alike : AreAlike at.first at.second) (text : List ℕ) (new : DiskState) where
+    (alike : StayAlike at.first at.second) (text : List ℕ) (new : DiskState) where
   pub first_under : HasWrittenFront at.first.written new.written text
       → Passes at.first.moments new.moments at.first.synced new.written
       → RunUnder (record { synced = at.second.synced; written = new.written }) at
@@ -360,7 +358,7 @@ module _ (at : MirrorState) (unfailed : (at.first.has_failed || at.second.has_fa
 -- ---- the same of a mirror whose view has another name
 
 module _ (view at : MirrorState) (is : view ≡ at)
-    (unfailed : (at.first.has_failed || at.second.has_failed) ≡ false) (alike : AreAlike view.first view.second) where
+    (unfailed : (at.first.has_failed || at.second.has_failed) ≡ false) (alike : StayAlike view.first view.second) where
   still : (view.first.has_failed || view.second.has_failed) ≡ false
   still = subst (λ (one : MirrorState). (one.first.has_failed || one.second.has_failed) ≡ false) (sym is) unfailed
 

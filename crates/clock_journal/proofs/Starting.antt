@@ -13,6 +13,7 @@ use Rattle.clock_journal.specs.Logged.{JournalState, file_of}
 use Rattle.clock_journal.specs.Reading.{Next}
 use Rattle.clock_journal.specs.Crash.{BeginsWithTexts, IsEnd, IsFile, IsPartOfHead, LeavesJournal, LeavesTexts}
 use Rattle.clock_journal.specs.Recovering.{AreTextsOf}
+use Rattle.clock_journal.specs.Resuming.{LeavesWhatWas}
 use Rattle.clock_journal.specs.declared.durable.Durable.{Ghosts}
 use Rattle.clock_journal.specs.declared.recovery.Recovered.{Recovered}
 use Rattle.clock_journal.proofs.Cuts.{cut_leaves, cut_within}
@@ -175,9 +176,6 @@ none_first digest bytes texts read recovered size nowhere begins placed =
 
 -- ---- a start, moment by moment
 
-pub sized : (at now : JournalState) → at ≡ now → length at.chain ≡ 32 → length now.chain ≡ 32
-sized at now view size = subst (λ (one : JournalState). length one.chain ≡ 32) view size
-
 -- a file that is truncated to nothing is empty
 pub emptied : (old mid new : Option (List ℕ)) (bytes : List ℕ) (place : ℕ) → new ≡ option_map (take place) mid
     → mid ≡ old → place ≡ 0 → old ≡ Some bytes → new ≡ Some []
@@ -195,7 +193,7 @@ pub record Lasts (digest bytes : List ℕ) (recovered : Recovered) (Leaves : Lis
       → Leaves left
   pub anew : (left : List ℕ) → recovered.end ≡ 0 → Leaves bytes → LeavesJournal digest left [] 0 → Leaves left
 
-pub crash_lasts : {digest bytes : List ℕ} {read : List (List ℕ)} {recovered : Recovered} (texts : List (List ℕ))
+crash_lasts : {digest bytes : List ℕ} {read : List (List ℕ)} {recovered : Recovered} (texts : List (List ℕ))
     (least : ℕ) → length digest ≡ 32 → AreTextsOf digest bytes read recovered
     → Lasts digest bytes recovered (λ left. LeavesJournal digest left texts least)
 crash_lasts {digest} {bytes} {read} {recovered} texts least size placed = record {
@@ -204,7 +202,7 @@ crash_lasts {digest} {bytes} {read} {recovered} texts least size placed = record
       anew_leaves digest bytes texts read least recovered left size nowhere leaves placed now;
 }
 
-pub tail_lasts : {digest bytes : List ℕ} {read : List (List ℕ)} {recovered : Recovered} (texts : List (List ℕ))
+tail_lasts : {digest bytes : List ℕ} {read : List (List ℕ)} {recovered : Recovered} (texts : List (List ℕ))
     → length digest ≡ 32 → AreTextsOf digest bytes read recovered
     → Lasts digest bytes recovered (λ left. BeginsWithTexts digest left texts)
 tail_lasts {digest} {bytes} {read} {recovered} texts size placed = record {
@@ -217,6 +215,20 @@ abbrev pub Stays : JournalState → List ℕ → List ℕ → Option (List Momen
 Stays at bytes on_disk new Leaves = at.written ≡ Some bytes → at.synced ≡ Some on_disk
     → ((left : List ℕ) → MayBeLeft at.synced at.written left → Leaves at.chain left)
     → LeaveOnly at.moments new (Leaves at.chain)
+
+-- what lasts of a file also stays so: then a crash leaves what one before would leave
+pub leaves_what_was : {at now new : JournalState} {bytes : List ℕ} {read : List (List ℕ)} {recovered : Recovered}
+    → at ≡ now → length at.chain ≡ 32 → AreTextsOf now.chain bytes read recovered
+    → ((synced : List ℕ) (Leaves : List ℕ → List ℕ → Type 0) → Lasts now.chain bytes recovered (Leaves now.chain)
+    → Stays now bytes synced new.moments Leaves) → LeavesWhatWas bytes now new
+leaves_what_was view sized placed stays =
+    let size = subst (λ (one : JournalState). length one.chain ≡ 32) view sized in
+    record {
+      crash = λ synced texts least. stays synced (λ chain left. LeavesJournal chain left texts least)
+          (crash_lasts texts least size placed);
+      any_tail = λ synced texts. stays synced (λ chain left. BeginsWithTexts chain left texts)
+          (tail_lasts texts size placed);
+    }
 
 module _ {D : Type 0} (disk : Ghosts D) (at now : JournalState) (view : at ≡ now) (bytes on_disk : List ℕ)
     (Leaves : List ℕ → List ℕ → Type 0) (first : D)

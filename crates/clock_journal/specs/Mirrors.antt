@@ -1,5 +1,7 @@
 -- Two disks with the same bytes, of which a crash may lose one.
 --     DiskState, MirrorState      what contracts see of a disk, and of both
+--     state_of ghosts disk      what they see of this disk
+--     AreAlike first second      two disks have the same bytes, and the same of them synced
 --     IsPrefix one other, IsPartOf left written      one is a prefix of the other, perhaps empty
 --     IsUnder joint one      at this moment, a disk had no more bytes than at the joint one, and no
 --         fewer of them synced
@@ -16,6 +18,7 @@ use Rattle.std.specs.Prelude.{◌≡◌, ◌<◌, ◌≤◌, ◌⊎◌, ◌++◌
 use Rattle.std.specs.Prelude.{All, get_or}
 use Rattle.std.specs.Prelude.{Option, Some, None, option_map, nat_lt, if◌then◌else◌}
 use Rattle.clock_journal.specs.Disks.{CouldBeLeft, MayBeLeft, Moment}
+use Rattle.clock_journal.specs.declared.durable.Durable.{Ghosts}
 
 -- in contracts, a disk: the moments are those that it has passed, the last one first
 pub record DiskState : Type 0 where
@@ -23,6 +26,15 @@ pub record DiskState : Type 0 where
   pub synced : Option (List ℕ)
   pub has_failed : Bool
   pub moments : Option (List Moment)
+
+-- what contracts see of this disk; for a disk of type `D`, the ghosts are `D.Durable`
+abbrev pub state_of : {D : Type 0} → Ghosts D → D → DiskState
+state_of ghosts disk = record {
+  written = ghosts.written disk;
+  synced = ghosts.synced disk;
+  has_failed = ghosts.has_failed disk;
+  moments = ghosts.moments disk;
+}
 
 -- in contracts, a mirror: its two disks
 pub record MirrorState : Type 0 where
@@ -33,6 +45,11 @@ pub record MirrorState : Type 0 where
 abbrev pub IsWithin : Option (List ℕ) → Option (List ℕ) → Type 0
 IsWithin synced written = (least all : List ℕ) → synced ≡ Some least → written ≡ Some all
     → length least ≤ length all
+
+-- both have the same bytes, and the same of them synced
+abbrev pub AreAlike : DiskState → DiskState → Type 0
+AreAlike first second = (first.written ≡ second.written) × (first.synced ≡ second.synced)
+    × IsWithin first.synced first.written
 
 -- one is a prefix of the other; it may be empty
 abbrev pub IsPrefix : List ℕ → List ℕ → Type 0

@@ -1,14 +1,13 @@
 //! Two disks that are one, so that the loss of either loses nothing.
-ghost use Rattle.std.specs.Prelude.{◌≡◌, ◌≤◌, ◌||◌, ◌++◌, List, ℕ, IfErr, IfOk, OnErr, OnOk, None};
-ghost use Rattle.std.specs.Prelude.{Some, false, is_err, length, option_map, take};
-ghost use Rattle.clock_device.specs.Streams.{HasWritten, WritesText};
+ghost use Rattle.std.specs.Prelude.{◌≡◌, ◌≤◌, ◌||◌, IfErr, IfOk, OnErr, OnOk, None, Some, false};
+ghost use Rattle.std.specs.Prelude.{is_err, length, option_map, take};
+ghost use Rattle.clock_device.specs.Streams.{WritesText};
 ghost use Rattle.clock_journal.specs.Disks.{CutsTo, Passes};
-ghost use Rattle.clock_journal.specs.Mirrors.{IsCommon, IsPrefix, IsWithin, MirrorState};
+ghost use Rattle.clock_journal.specs.Mirrors.{AreAlike, IsCommon, IsPrefix, MirrorState};
 ghost use Rattle.clock_journal.specs.Mirrors.{MirrorsKeep, RestUnder, RunUnder, RunsTo, StartsKeep};
-ghost use Rattle.clock_journal.specs.Mirrors.{joined, longer, shorter};
+ghost use Rattle.clock_journal.specs.Mirrors.{joined, longer, shorter, state_of};
 ghost use Rattle.clock_journal.specs.Levels.{AreSeen, Bytes, IsNotLevel};
-ghost use Rattle.clock_journal.specs.inside.Leveling.{Differ, HaveEnds};
-ghost use Rattle.clock_journal.specs.Sources.{HasBytes};
+ghost use Rattle.clock_journal.specs.inside.Leveling.{AreCopied, Differ, HaveEnds, IsCopying};
 
 use crate::durable::Durable;
 use crate::reading::fill;
@@ -31,43 +30,20 @@ impl<A: Durable, B: Durable> Model for Mirror<A, B> {
     ghost Value = { MirrorState };
 
     ghost view = { λ m. record {
-      first = record {
-        written = A.written m.first;
-        synced = A.synced m.first;
-        has_failed = A.has_failed m.first;
-        moments = A.moments m.first;
-      };
-      second = record {
-        written = B.written m.second;
-        synced = B.synced m.second;
-        has_failed = B.has_failed m.second;
-        moments = B.moments m.second;
-      };
+      first = state_of A.Durable m.first;
+      second = state_of B.Durable m.second;
     } };
 
     ghost invariant = { λ m. A.has_failed m.first ≡ false → B.has_failed m.second ≡ false
-        → (A.written m.first ≡ B.written m.second) × (A.synced m.first ≡ B.synced m.second)
-        × IsWithin (A.synced m.first) (A.written m.first) };
+        → AreAlike (state_of A.Durable m.first) (state_of B.Durable m.second) };
 }
 
 impl<A: Durable, B: Durable> Mirror<A, B> {
     /// Makes one disk of two that [`level`] has brought to the same bytes.
     pub fn new(first: A, second: B) -> Mirror<A, B>
-        requires alike { (A.written first ≡ B.written second)
-            × (A.synced first ≡ B.synced second)
-            × IsWithin (A.synced first) (A.written first) }
-        ensures first { result.first ≡ record {
-          written = A.written first;
-          synced = A.synced first;
-          has_failed = A.has_failed first;
-          moments = A.moments first;
-        } }
-        ensures second { result.second ≡ record {
-          written = B.written second;
-          synced = B.synced second;
-          has_failed = B.has_failed second;
-          moments = B.moments second;
-        } }
+        requires alike { AreAlike (state_of A.Durable first) (state_of B.Durable second) }
+        ensures first { result.first ≡ state_of A.Durable first }
+        ensures second { result.second ≡ state_of B.Durable second }
     {
         Mirror { first, second }
     }
@@ -217,23 +193,12 @@ fn compare<S: Source, T: Source>(
 fn extend<D: Durable, S: Source>(disk: &mut D, missing: &[u8], source: &mut S) -> Result<(), Failed>
     requires unfailed { D.has_failed disk.old ≡ false }
     ensures unseen { D.written disk.old ≡ None → D.written disk.new ≡ None }
-    ensures ok { OnOk result ((rest : List ℕ) × HasBytes (S.report source.old).left rest
-        × HasWritten (D.written disk.old) (D.written disk.new) (missing.now ++ rest)) }
+    ensures ok { OnOk result (AreCopied (S.report source.old).left missing.now
+        (D.written disk.old) (D.written disk.new)) }
     ensures synced { OnOk result (D.synced disk.new ≡ D.written disk.new) }
     ensures unfailed { OnOk result (D.has_failed disk.new ≡ false) }
-    ensures moments { (rest : List ℕ) × HasBytes (S.report source.old).left rest
-        × ((bytes : List ℕ) → RunsTo bytes (bytes ++ (missing.now ++ rest))
-        (record {
-          written = D.written disk.old;
-          synced = D.synced disk.old;
-          has_failed = D.has_failed disk.old;
-          moments = D.moments disk.old;
-        }) (record {
-          written = D.written disk.new;
-          synced = D.synced disk.new;
-          has_failed = D.has_failed disk.new;
-          moments = D.moments disk.new;
-        })) }
+    ensures moments { IsCopying (S.report source.old).left missing.now
+        (state_of D.Durable disk.old) (state_of D.Durable disk.new) }
 {
     disk.append(missing)?;
     let mut piece = [0; PIECE];
@@ -256,9 +221,9 @@ fn extend<D: Durable, S: Source>(disk: &mut D, missing: &[u8], source: &mut S) -
 ///
 /// For the bytes of the two sources, `one` and `other`:
 ///
-/// - `ok`: both disks have the longer file, all of it synced, so that [`Mirror::new`] takes them.
-/// - `first`, `second`: at each moment of the call, also at `Err`, a disk has its old bytes, and
-///   perhaps a prefix of what the other file has in addition.
+/// - At `Ok`, both disks have the longer file, all of it synced. So [`Mirror::new`] takes them.
+/// - At each moment of the call, also at `Err`, a disk has its old bytes, and perhaps a prefix of
+///   what the other file has in addition.
 ///
 /// Requires that no call of the disks has failed. Errors, at whichever comes first: `Differs`, with
 /// both disks unchanged; `Failed`.
@@ -272,9 +237,8 @@ pub fn level<A: Durable, B: Durable, S: Source, T: Source>(
     requires second { B.has_failed second.old ≡ false }
     requires bytes { AreSeen (A.written first.old) (B.written second.old) (S.report one.old).left
         (T.report other.old).left }
-    ensures alike { OnOk result ((A.written first.new ≡ B.written second.new)
-        × (A.synced first.new ≡ B.synced second.new)
-        × IsWithin (A.synced first.new) (A.written first.new)) }
+    ensures alike { OnOk result (AreAlike (state_of A.Durable first.new)
+        (state_of B.Durable second.new)) }
     ensures unfailed { OnOk result ((A.has_failed first.new ≡ false)
         × (B.has_failed second.new ≡ false)) }
     ensures bytes { (bytes : Bytes (S.report one.old).left (T.report other.old).left)
@@ -283,28 +247,10 @@ pub fn level<A: Durable, B: Durable, S: Source, T: Source>(
         → A.written first.new ≡ Some (longer bytes.one bytes.other)))
         × IfErr result (IsNotLevel bytes.one bytes.other (first.new ≡ first.old)
         (second.new ≡ second.old))
-        × RunsTo bytes.one (longer bytes.one bytes.other) (record {
-          written = A.written first.old;
-          synced = A.synced first.old;
-          has_failed = A.has_failed first.old;
-          moments = A.moments first.old;
-        }) (record {
-          written = A.written first.new;
-          synced = A.synced first.new;
-          has_failed = A.has_failed first.new;
-          moments = A.moments first.new;
-        })
-        × RunsTo bytes.other (longer bytes.one bytes.other) (record {
-          written = B.written second.old;
-          synced = B.synced second.old;
-          has_failed = B.has_failed second.old;
-          moments = B.moments second.old;
-        }) (record {
-          written = B.written second.new;
-          synced = B.synced second.new;
-          has_failed = B.has_failed second.new;
-          moments = B.moments second.new;
-        }) }
+        × RunsTo bytes.one (longer bytes.one bytes.other) (state_of A.Durable first.old)
+        (state_of A.Durable first.new)
+        × RunsTo bytes.other (longer bytes.one bytes.other) (state_of B.Durable second.old)
+        (state_of B.Durable second.new) }
 {
     let (mut here, mut there) = ([0; PIECE], [0; PIECE]);
     let counts = match compare(one, other, &mut here, &mut there) {

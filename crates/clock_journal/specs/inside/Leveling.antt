@@ -4,10 +4,13 @@
 --     Differ one other fault      the sources differ at this place, or one could not be read
 --     IsCopied old_source source missing old new      what was missing was appended, and what was
 --         read since
+--     AreCopied source missing old new      a file got what was missing, and all that a source had
+--     IsCopying source missing old new      at each moment, a disk had a prefix of these
 use Rattle.std.specs.Prelude.{◌≡◌, ◌≤◌, ◌++◌, ℕ, List, Option, None, length, min, take, false}
 use Rattle.clock_device.specs.Streams.{HasRead, HasWritten, IsReadOut}
 use Rattle.clock_journal.specs.Levels.{Bytes, IsPlace}
 use Rattle.clock_journal.specs.Mirrors.{DiskState, RunsTo}
+use Rattle.clock_journal.specs.Sources.{HasBytes}
 use Rattle.clock_journal.specs.declared.mirror.LevelFault.{LevelFault}
 use Rattle.clock_journal.specs.declared.mirror.LevelFault.TheVariants.{Differs, Failed}
 
@@ -28,6 +31,16 @@ pub record IsCopied (old_source source : Option (List ℕ)) (missing : List ℕ)
   pub synced : new.synced ≡ old.synced
   pub unfailed : new.has_failed ≡ false
   pub runs : (before : List ℕ) → RunsTo before (before ++ (missing ++ bytes)) old new
+
+-- a file has what was missing, and then all that a source had
+abbrev pub AreCopied : Option (List ℕ) → List ℕ → Option (List ℕ) → Option (List ℕ) → Type 0
+AreCopied source missing old new =
+    (rest : List ℕ) × HasBytes source rest × HasWritten old new (missing ++ rest)
+
+-- a disk is on its way to what was missing, and all that a source had
+abbrev pub IsCopying : Option (List ℕ) → List ℕ → DiskState → DiskState → Type 0
+IsCopying source missing old new = (rest : List ℕ) × HasBytes source rest
+    × ((bytes : List ℕ) → RunsTo bytes (bytes ++ (missing ++ rest)) old new)
 
 -- both had the same bytes, and then these pieces, of which one is a prefix of the other: the
 -- source of the shorter one has no byte left

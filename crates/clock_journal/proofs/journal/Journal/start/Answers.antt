@@ -1,19 +1,15 @@
 use Rattle.std.proofs.Common.{◌≡◌, ℕ, List, rules}
-use Rattle.clock_journal.specs.Crash.{BeginsWithTexts, LeavesJournal}
-use Rattle.clock_journal.proofs.Starting.{Lasts, Stays, crash_lasts, emptied, sized, stays_begun, stays_cut, stays_last}
-use Rattle.clock_journal.proofs.Starting.{stays_synced, tail_lasts}
+use Rattle.clock_journal.proofs.Starting.{Lasts, Stays, emptied, leaves_what_was, stays_begun, stays_cut, stays_last}
+use Rattle.clock_journal.proofs.Starting.{stays_synced}
 use Rattle.clock_journal.proofs.journal.Journal.start.Given.{Over}
 use Rattle.clock_journal.proofs.journal.Journal.start.Goals.{else-recovered-eq0}
 use Rattle.clock_journal.proofs.journal.Journal.start.Goals.{then-recovered-eq0+in_ok-append+in_ok-sync-2}
 use Rattle.clock_journal.proofs.journal.Journal.start.Goals as goal
 
 pub returns-in_err-sync-clause-leaves : goal.returns-in_err-sync-clause-leaves
-returns-in_err-sync-clause-leaves g c bytes read placed = record {
-  crash = λ synced texts least. stays_synced g.D.Durable _ _ c.self.view_is bytes synced
-      (λ chain left. LeavesJournal chain left texts least) c.sync.new.self c.sync.ensures.moments;
-  any_tail = λ synced texts. stays_synced g.D.Durable _ _ c.self.view_is bytes synced
-      (λ chain left. BeginsWithTexts chain left texts) c.sync.new.self c.sync.ensures.moments;
-}
+returns-in_err-sync-clause-leaves g c bytes read placed =
+    leaves_what_was c.self.view_is (search rules) placed (λ synced Leaves lasts.
+    stays_synced g.D.Durable _ _ c.self.view_is bytes synced Leaves c.sync.new.self c.sync.ensures.moments)
 
 -- at each exit, what a crash may leave: if the truncation fails
 at_cut : (g : Over) (c : goal.After-from_residual-in_err-cut g) (bytes synced : List ℕ)
@@ -26,13 +22,7 @@ at_cut g c bytes synced Leaves lasts =
 
 pub returns-in_err-cut-clause-leaves : goal.returns-in_err-cut-clause-leaves
 returns-in_err-cut-clause-leaves g c bytes read placed =
-    let size = sized _ _ c.self.view_is (search rules) in
-    record {
-      crash = λ synced texts least. at_cut g c bytes synced (λ chain left. LeavesJournal chain left texts least)
-          (crash_lasts texts least size placed);
-      any_tail = λ synced texts. at_cut g c bytes synced (λ chain left. BeginsWithTexts chain left texts)
-          (tail_lasts texts size placed);
-    }
+    leaves_what_was c.self.view_is (search rules) placed (at_cut g c bytes)
 
 -- if the append of the head fails
 at_append : (g : Over) (c : goal.After-from_residual-in_err-append g) (bytes synced : List ℕ)
@@ -49,13 +39,7 @@ at_append g c bytes synced Leaves lasts =
 
 pub returns-in_err-append-clause-leaves : goal.returns-in_err-append-clause-leaves
 returns-in_err-append-clause-leaves g c bytes read placed =
-    let size = sized _ _ c.self.view_is (search rules) in
-    record {
-      crash = λ synced texts least. at_append g c bytes synced (λ chain left. LeavesJournal chain left texts least)
-          (crash_lasts texts least size placed);
-      any_tail = λ synced texts. at_append g c bytes synced (λ chain left. BeginsWithTexts chain left texts)
-          (tail_lasts texts size placed);
-    }
+    leaves_what_was c.self.view_is (search rules) placed (at_append g c bytes)
 
 -- if the sync of the head fails
 at_sync : (g : Over) (c : goal.After-from_residual-in_err-sync-2 g) (bytes synced : List ℕ)
@@ -73,13 +57,7 @@ at_sync g c bytes synced Leaves lasts =
 
 pub returns-in_err-sync-2-clause-leaves : goal.returns-in_err-sync-2-clause-leaves
 returns-in_err-sync-2-clause-leaves g c bytes read placed =
-    let size = sized _ _ c.self.view_is (search rules) in
-    record {
-      crash = λ synced texts least. at_sync g c bytes synced (λ chain left. LeavesJournal chain left texts least)
-          (crash_lasts texts least size placed);
-      any_tail = λ synced texts. at_sync g c bytes synced (λ chain left. BeginsWithTexts chain left texts)
-          (tail_lasts texts size placed);
-    }
+    leaves_what_was c.self.view_is (search rules) placed (at_sync g c bytes)
 
 -- at the end
 at_end : (g : Over) (c : goal.After-self-2-1 g) (bytes synced : List ℕ)
@@ -103,10 +81,4 @@ at_end g c bytes synced Leaves lasts =
 
 pub returns-clause-leaves : goal.returns-clause-leaves
 returns-clause-leaves g c bytes read placed =
-    let size = sized _ _ c.self.view_is (search rules) in
-    record {
-      crash = λ synced texts least. at_end g c bytes synced (λ chain left. LeavesJournal chain left texts least)
-          (crash_lasts texts least size placed);
-      any_tail = λ synced texts. at_end g c bytes synced (λ chain left. BeginsWithTexts chain left texts)
-          (tail_lasts texts size placed);
-    }
+    leaves_what_was c.self.view_is (search rules) placed (at_end g c bytes)

@@ -1,6 +1,6 @@
 use Rattle.std.proofs.Common.{subst}
 use Rattle.clock_device.specs.Streams.{WritesText}
-use Rattle.clock_journal.specs.Mirrors.{DiskState, MirrorState}
+use Rattle.clock_journal.specs.Mirrors.{MirrorState, state_of}
 use Rattle.clock_journal.proofs.Mirrored.{appends_both, appends_both_rest, appends_first, appends_first_rest}
 use Rattle.clock_journal.proofs.Mirrored.{text_front, written_all}
 use Rattle.clock_journal.proofs.mirror.MirrorDurable.append.Goals as goal
@@ -15,58 +15,28 @@ returns-clause-written g c =
 
 pub returns-in_err-append-clause-under : goal.returns-in_err-append-clause-under
 returns-in_err-append-clause-under g c =
-    let new : DiskState = (record {
-      written = g.A.Durable.written c.append.new.self;
-      synced = g.A.Durable.synced c.append.new.self;
-      has_failed = g.A.Durable.has_failed c.append.new.self;
-      moments = g.A.Durable.moments c.append.new.self;
-    }) in
+    let new = state_of g.A.Durable c.append.new.self in
     appends_first _ _ c.self.view_is c.requires.unfailed c.self.invariant c.args.bytes.now new
     c.in_err-append.ensures.written c.append.ensures.moments
 
 pub returns-in_err-append-clause-rest : goal.returns-in_err-append-clause-rest
 returns-in_err-append-clause-rest g c =
-    let new : DiskState = (record {
-      written = g.A.Durable.written c.append.new.self;
-      synced = g.A.Durable.synced c.append.new.self;
-      has_failed = g.A.Durable.has_failed c.append.new.self;
-      moments = g.A.Durable.moments c.append.new.self;
-    }) in
+    let new = state_of g.A.Durable c.append.new.self in
     appends_first_rest _ _ c.self.view_is c.requires.unfailed c.self.invariant c.args.bytes.now new
     c.in_err-append.ensures.written c.append.ensures.synced
 
 pub returns-clause-under : goal.returns-clause-under
 returns-clause-under g c =
-    let new : DiskState = (record {
-      written = g.A.Durable.written c.append.new.self;
-      synced = g.A.Durable.synced c.append.new.self;
-      has_failed = g.A.Durable.has_failed c.append.new.self;
-      moments = g.A.Durable.moments c.append.new.self;
-    }) in
-    let other : DiskState = (record {
-      written = g.B.Durable.written c.append-2.new.self;
-      synced = g.B.Durable.synced c.append-2.new.self;
-      has_failed = g.B.Durable.has_failed c.append-2.new.self;
-      moments = g.B.Durable.moments c.append-2.new.self;
-    }) in
+    let new = state_of g.A.Durable c.append.new.self in
+    let other = state_of g.B.Durable c.append-2.new.self in
     appends_both _ _ c.self.view_is c.requires.unfailed c.self.invariant c.args.bytes.now new other
     c.in_ok-append.ensures.written (text_front _ _ c.args.bytes.now c.append-2.result c.append-2.ensures.written)
     c.append.ensures.moments c.append-2.ensures.moments
 
 pub returns-clause-rest : goal.returns-clause-rest
 returns-clause-rest g c =
-    let new : DiskState = (record {
-      written = g.A.Durable.written c.append.new.self;
-      synced = g.A.Durable.synced c.append.new.self;
-      has_failed = g.A.Durable.has_failed c.append.new.self;
-      moments = g.A.Durable.moments c.append.new.self;
-    }) in
-    let other : DiskState = (record {
-      written = g.B.Durable.written c.append-2.new.self;
-      synced = g.B.Durable.synced c.append-2.new.self;
-      has_failed = g.B.Durable.has_failed c.append-2.new.self;
-      moments = g.B.Durable.moments c.append-2.new.self;
-    }) in
+    let new = state_of g.A.Durable c.append.new.self in
+    let other = state_of g.B.Durable c.append-2.new.self in
     appends_both_rest _ _ c.self.view_is c.requires.unfailed c.self.invariant c.args.bytes.now new other
     c.in_ok-append.ensures.written (text_front _ _ c.args.bytes.now c.append-2.result c.append-2.ensures.written)
     c.append.ensures.synced c.append-2.ensures.synced
