@@ -104,7 +104,7 @@ SCENARIOS = [
     Scenario("read_opening", ["opening", OPENING]),
     Scenario("read_replay", ["replay", REPLAY]),
     Scenario("simulate and report_text", ["simulate", REPLAY]),
-    Scenario("replay_text", ["replay_text", REPLAY]),
+    Scenario("play_replay", ["play_replay", REPLAY]),
     *[
         Scenario(f"{name}, {processor}", [kind, processor, *parts])
         for processor in ("plain", "woken")

@@ -136,8 +136,8 @@ fn run<R: Source, W: Sink>(
     ensures reads { (R.report reader.new).calls ≤ most_document_reads }
 {
     let document = read_all(alloc, reader)?;
-    let text = answer(alloc, job, document)?;
-    write_all(writer, text.as_slice()).or(Err(Fault::Output))
+    let answer = answer(alloc, job, document)?;
+    answer.write(writer).or(Err(Fault::Output))
 }
 
 /// Writes the line of a fault, or a prefix of it if a write fails.

@@ -5,3 +5,4 @@ pub mod Posted
 pub mod NextPrices
 mod Examples
 pub mod SheetLines
+pub mod Buffers

@@ -1,6 +1,5 @@
--- Proves the bytes of a product's line, whose numbers are written from its end to its start.
+-- Proves the bytes of a product's line, whose numbers are written from its end to its start, and the lines of a list.
 use Rattle.std.proofs.Common.{◌≡◌, List, ℕ, ◌++◌, codes, ap, append_assoc, ◌∙◌}
-use Rattle.std.specs.Prelude.{Result, Ok, Err, OnOk}
 
 in_order : (text name a b c d e : List ℕ) → (text ++ name) ++ (codes " "
     ++ (a ++ (codes " " ++ (b ++ (codes " " ++ (c ++ (codes " " ++ (d ++ (codes " " ++ (e ++ codes "\n")))))))))) ≡ text
@@ -8,10 +7,9 @@ in_order : (text name a b c d e : List ℕ) → (text ++ name) ++ (codes " "
 in_order text name a b c d e = simp append_assoc
 
 -- The numbers come after the name.
-pub line_added : {T E : Type 0} (text name next written a b c d e : List ℕ) (result : Result T E)
-    → OnOk result (next ≡ (text ++ name) ++ written) → written ≡ codes " " ++ (a ++ (codes " "
-    ++ (b ++ (codes " " ++ (c ++ (codes " " ++ (d ++ (codes " " ++ (e ++ codes "\n"))))))))) → OnOk result (next ≡ text
-    ++ (name ++ codes " " ++ a ++ codes " " ++ b ++ codes " " ++ c ++ codes " " ++ d ++ codes " " ++ e ++ codes "\n"))
-line_added text name next written a b c d e (Ok done) added is =
-    added ∙ ap (λ (numbers : List ℕ). (text ++ name) ++ numbers) is ∙ in_order text name a b c d e
-line_added text name next written a b c d e (Err fault) added is = tt
+pub line_added : (text name written a b c d e : List ℕ) → written ≡ codes " " ++ (a ++ (codes " "
+    ++ (b ++ (codes " " ++ (c ++ (codes " " ++ (d ++ (codes " " ++ (e ++ codes "\n"))))))))) → (text ++ name) ++ written
+    ≡ text
+    ++ (name ++ codes " " ++ a ++ codes " " ++ b ++ codes " " ++ c ++ codes " " ++ d ++ codes " " ++ e ++ codes "\n")
+line_added text name written a b c d e is =
+    ap (λ (numbers : List ℕ). (text ++ name) ++ numbers) is ∙ in_order text name a b c d e

@@ -1,3 +1,4 @@
 -- Definitions that only proofs and private functions use. No clause of a public call cites them.
 pub mod RoundEnd
 pub mod Parts
+pub mod Ways

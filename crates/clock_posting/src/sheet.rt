@@ -1,8 +1,10 @@
-ghost use Rattle.std.specs.Prelude.{◌≡◌, ◌≤◌, ◌+◌, ◌++◌, IfOk, codes, drop, length, OnOk};
+ghost use Rattle.std.specs.Prelude.{◌≡◌, ◌≤◌, ◌+◌, ◌++◌, IfOk, codes, drop, length};
 ghost use Rattle.clock_device.specs.Decimal.{number_or_dash};
-ghost use Rattle.clock_posting.specs.SheetText.{sheet_text, line_text};
+ghost use Rattle.clock_posting.specs.{Buffers.{Puts, output}, SheetText.{sheet_text, line_text}};
 
-use clock_device::{Items, NoMemory, Text, put_before};
+use crate::buffer::Buffer;
+use crate::text_sink::TextSink;
+use clock_device::{Items, NoMemory, Sink, Text, put_before};
 use clock_money::Price;
 use clock_terms::{Product, Setup};
 use itoa::write_digits;
@@ -63,23 +65,25 @@ pub fn sheet_lines(alloc: Global, setup: &Setup, sheet: &RoundSheet) -> Result<T
     requires { length sheet.now.lines ≡ length setup.now.products }
     ensures { IfOk result (λ text. text ≡ sheet_text setup.now.products sheet.now) }
 {
-    with_sheet_lines(Text::new(alloc), setup, sheet)
+    let mut buffer = Buffer::new(alloc)?;
+    let mut sink = TextSink::new(alloc);
+    write_sheet(&mut sink, &mut buffer, setup, sheet);
+    sink.finish(&mut buffer)
 }
 
-/// Appends the lines of [`sheet_lines`] to `text`. It moves `text`, so that after `NoMemory` no
-/// text is left with only a part of the lines.
-pub fn with_sheet_lines(mut text: Text, setup: &Setup, sheet: &RoundSheet) -> Result<Text, NoMemory>
+/// Writes the lines of [`sheet_lines`]. Allocates nothing.
+pub fn write_sheet<W: Sink>(sink: &mut W, buffer: &mut Buffer, setup: &Setup, sheet: &RoundSheet)
     requires { length sheet.now.lines ≡ length setup.now.products }
-    ensures { IfOk result (λ lines. lines ≡ text ++ sheet_text setup.now.products sheet.now) }
+    ensures { Puts (output (W.report sink.old) buffer.old) (output (W.report sink.new) buffer.new)
+        (sheet_text setup.now.products sheet.now) }
 {
     let products = setup.products.as_slice();
-    text.extend_from_slice(b"round ")?;
-    text.push_number(sheet.round)?;
-    text.push(b'\n')?;
+    buffer.put(sink, b"round ");
+    buffer.put_number(sink, sheet.round);
+    buffer.put(sink, b"\n");
     for (i, line) in sheet.lines.iter().enumerate() {
-        push_line(&mut text, &products[i], line)?;
+        write_line(sink, buffer, &products[i], line);
     }
-    Ok(text)
 }
 
 /// The most bytes that the numbers of a line take: five numbers of 20 digits, each after a space,
@@ -105,9 +109,10 @@ fn put_field(bytes: &mut [u8], end: usize, number: Option<u64>) -> usize
     put_before(bytes, start, b" ")
 }
 
-/// Appends the line of a product.
-fn push_line(text: &mut Text, product: &Product, line: &Line) -> Result<(), NoMemory>
-    ensures { OnOk result (text.new ≡ text.old ++ line_text product.now line.now) }
+/// Writes the line of a product.
+fn write_line<W: Sink>(sink: &mut W, buffer: &mut Buffer, product: &Product, line: &Line)
+    ensures { Puts (output (W.report sink.old) buffer.old) (output (W.report sink.new) buffer.new)
+        (line_text product.now line.now) }
 {
     let mut numbers = [0; NUMBERS_ROOM];
     let end = put_before(&mut numbers, NUMBERS_ROOM, b"\n");
@@ -116,6 +121,6 @@ fn push_line(text: &mut Text, product: &Product, line: &Line) -> Result<(), NoMe
     let posted = put_field(&mut numbers, demand, Some(line.posted.get()));
     let clock = put_field(&mut numbers, posted, Some(line.clock.get()));
     let start = put_field(&mut numbers, clock, Some(line.start.get()));
-    text.extend_from_slice(product.name.as_slice())?;
-    text.extend_from_slice(&numbers[start..])
+    buffer.put(sink, product.name.as_slice());
+    buffer.put(sink, &numbers[start..]);
 }

@@ -2,12 +2,12 @@
 
 use crate::comparing::{assert_is_at, made_at};
 use crate::documents::{Piece, document, repeated};
-use clock_device::Text;
+use clock_device::{Failed, ListSink, Text};
 use clock_fixtures::ONE_PRODUCT;
 use clock_http::Code;
 use clock_processor::Plain;
 use clock_sim::{
-    Replay, Report, SimFault, read_replay, replay_text, report_text, simulate, simulate_with,
+    Replay, Report, SimFault, play_replay, read_replay, report_text, simulate, simulate_with,
 };
 use std::alloc::Global;
 use std::process::Abort;
@@ -46,7 +46,7 @@ fn reported(alloc: Global, report: Result<Report, SimFault>) -> Result<Text, Sim
 ///
 /// - [`WOKEN`]: the event queue.
 /// - [`RESCANNED`]: the rescanned list.
-/// - [`WRITTEN`]: the event queue, with the text from the auction itself.
+/// - [`WRITTEN`]: the event queue, with the text as the auction itself writes it.
 type Settled<'a> = &'a str;
 
 const WOKEN: Settled<'static> = "woken";
@@ -66,10 +66,19 @@ fn simulated(alloc: Global, replay: &Replay, is_woken: bool) -> Result<Text, Sim
     }
 }
 
+/// Plays a replay, and writes its report in short pieces. Returns the text, or the fault.
+fn written(alloc: Global, replay: Replay) -> Result<Text, SimFault> {
+    let mut sink = ListSink::new(alloc, 200, 7, None)?;
+    match play_replay(alloc, replay)?.write(&mut sink) {
+        Ok(()) => Ok(Text::from_slice(alloc, sink.bytes())?),
+        Err(Failed) => Err(SimFault::NoMemory),
+    }
+}
+
 /// Plays a replay. Returns its report or fault.
 fn played(alloc: Global, replay: Replay, settled: Settled<'_>) -> Result<Text, SimFault> {
     if settled == WRITTEN {
-        return replay_text(alloc, replay);
+        return written(alloc, replay);
     }
     let text = simulated(alloc, &replay, settled == WOKEN);
     drop(replay);

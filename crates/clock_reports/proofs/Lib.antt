@@ -1,3 +1,4 @@
 mod Examples
 pub mod RoundLaws
 pub mod WonLaws
+pub mod Rows

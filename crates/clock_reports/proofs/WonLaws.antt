@@ -2,16 +2,16 @@
 -- and their text is a prefix of the text of a row of zeros.
 use Rattle.std.proofs.Common.{◌≡◌, ℕ, zero, suc, ◌+◌, ◌-◌, ◌*◌, ◌<◌, ◌≤◌, List, ◌∷◌, ◌++◌, flat_map, length, take, drop}
 use Rattle.std.proofs.Common.{get_or, None, refl, sym, ap, ap₂}
-use Rattle.std.proofs.Common.{◌∙◌, append_assoc, arith}
-use Rattle.std.specs.Prelude.{codes, decimal, replicate, zip}
+use Rattle.std.proofs.Common.{◌∙◌, append-nil, arith}
+use Rattle.std.specs.Prelude.{codes, replicate, zip}
 use Rattle.std.specs.Fmt.{digits}
 use Rattle.std.specs.List.{AllWithin}
 use Rattle.std.proofs.lemmas.Grind.{flat_map-append}
-use Rattle.std.proofs.lemmas.List.{drop_more}
+use Rattle.std.proofs.lemmas.List.{drop_all, drop_more}
 use Rattle.std.proofs.lemmas.List.Sums.{sum_by-cons}
 use Rattle.clock_posting.specs.declared.sheet.Line.{Line}
 use Rattle.clock_reports.specs.ReportText.{payment}
-use Rattle.clock_reports.specs.inside.WonLines.{demand_text, none_held}
+use Rattle.clock_reports.specs.Writers.{demand_text, none_held}
 
 -- ---- the text of demands of 0
 
@@ -65,21 +65,25 @@ none_passed row from to order within none =
     (omega (arith, same, within)) (λ k d low high. none k d low (omega (arith, high, same)))))
 
 -- a positive demand after skipped ones
-pub one_held : (row text passed number next all : List ℕ) (from product demand : ℕ) → from ≤ product
-    → product < length row → AllWithin (λ demand. demand ≡ 0) row from product → demand ≡ get_or row product 0
-    → passed ≡ text ++ none_held (product - from) → number ≡ passed ++ decimal demand → next ≡ number ++ codes " "
-    → text ++ flat_map demand_text (drop from row) ≡ all → next ++ flat_map demand_text (drop (product + 1) row) ≡ all
-one_held row text passed number next all from product demand order within none is zeros digits_ space rest =
+pub one_held : (row : List ℕ) (from product demand : ℕ) → from ≤ product → product < length row → AllWithin (λ demand.
+    demand ≡ 0) row from product → demand ≡ get_or row product 0 → flat_map demand_text (drop from row)
+    ≡ none_held (product - from) ++ (demand_text demand ++ flat_map demand_text (drop (product + 1) row))
+one_held row from product demand order within none is =
     let behind : List ℕ = flat_map demand_text (drop (product + 1) row) in
     let more : flat_map demand_text (drop product row) ≡ demand_text demand ++ behind =
     ap (λ (demands : List ℕ). flat_map demand_text demands) (drop_more row product 0 within)
     ∙ ap (λ (first : ℕ). demand_text first ++ behind) (sym is) in
-    ap (λ (now : List ℕ). now ++ behind) (space ∙ ap (λ (now : List ℕ). now ++ codes " ")
-    (digits_ ∙ ap (λ (now : List ℕ). now ++ decimal demand) zeros)) ∙ ap (λ (now : List ℕ). now ++ behind)
-    (append_assoc (text ++ none_held (product - from)) (decimal demand) (codes " ")) ∙ append_assoc (text ++ none_held
-    (product - from)) (demand_text demand) behind ∙ ap (λ (left : List ℕ). (text ++ none_held (product - from)) ++ left)
-    (sym more) ∙ append_assoc text (none_held (product - from)) (flat_map demand_text (drop product row))
-    ∙ ap (λ (left : List ℕ). text ++ left) (none_passed row from product order (omega (arith, within)) none) ∙ rest
+    sym (none_passed row from product order (omega (arith, within)) none)
+    ∙ ap (λ (left : List ℕ). none_held (product - from) ++ left) more
+
+-- only demands of 0 are left
+pub none_left : (row : List ℕ) (from : ℕ) → from ≤ length row → AllWithin (λ demand. demand ≡ 0) row from (length row)
+    → flat_map demand_text (drop from row) ≡ none_held (length row - from)
+none_left row from order none =
+    sym (none_passed row from (length row) order (omega arith) none)
+    ∙ ap (λ (left : List ℕ). none_held (length row - from) ++ flat_map demand_text left)
+    (drop_all (length row) row (omega arith))
+    ∙ append-nil (none_held (length row - from))
 
 -- ---- prices of demands
 

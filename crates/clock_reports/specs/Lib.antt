@@ -1,4 +1,4 @@
 pub mod Reports
 pub mod ReportText
 pub mod FinalReport
-pub mod inside
+pub mod Writers

@@ -5,4 +5,4 @@ mod report;
 mod report_lines;
 
 pub use report::{Report, RoundSheets, report_so_far};
-pub use report_lines::{Digits, audit_text, final_text, report_text};
+pub use report_lines::{Digits, ReportWriter, audit_text, report_text};

@@ -12,4 +12,4 @@ pub use clock_scripts::SimFault;
 mod rounds;
 mod simulation;
 
-pub use simulation::{replay_text, simulate, simulate_with};
+pub use simulation::{PlayedReplay, play_replay, simulate, simulate_with};

@@ -1,20 +1,23 @@
-ghost use Rattle.std.specs.Prelude.{◌≡◌, [], Ok, true, IfOk, IfErr, OnOk};
+ghost use Rattle.std.specs.Prelude.{◌≡◌, ◌||◌, [], Ok, true, IfOk, IfErr, OnOk, is_err};
+ghost use Rattle.clock_device.specs.Streams.{WritesText};
 ghost use Rattle.clock_terms.specs.Faults.{IsRefusal};
 ghost use Rattle.clock_house.specs.House.{state_in};
 ghost use Rattle.clock_front.specs.Fronts.{StandsForTexts};
 ghost use Rattle.clock_reports.specs.{FinalReport.{report_of}, Reports.{IsReport}};
+ghost use Rattle.clock_reports.specs.ReportText.{report_text};
 ghost use Rattle.clock_sim.specs.Rehearsal as rules;
 ghost use Rattle.clock_sim.specs.inside.Steps.{AreScriptsOf, replay_of};
 
 use crate::rounds::play;
-use clock_device::Text;
+use clock_device::{Failed, Sink};
 use clock_front::{Front, Hub};
 use clock_processor::Processor;
 use clock_queue::Woken;
 use clock_replays::{Closing, Closings, Replay, Script, Scripts};
-use clock_reports::{Report, final_text, report_so_far};
+use clock_reports::{Report, ReportWriter, report_so_far};
 use clock_scripts::SimFault;
 use std::alloc::Global;
+use std::marker::Model;
 
 /// Plays an auction to its end. Requires that the front has answered no request.
 fn play_out<P: Processor>(
@@ -25,6 +28,7 @@ fn play_out<P: Processor>(
 ) -> Result<(), SimFault>
     requires first { StandsForTexts [] hub.old.house }
     requires scripts { AreScriptsOf hub.old.house.setup scripts.now }
+    ensures setup { hub.new.house.setup ≡ hub.old.house.setup }
     ensures ok { OnOk result (rules.simulated (replay_of hub.old.house scripts.now closings.now)
         ≡ Ok (report_of hub.new.house.setup hub.new.house.closed)) }
     ensures ended { OnOk result ((state_in hub.new.house).ended ≡ true) }
@@ -52,30 +56,6 @@ fn played<P: Processor>(
     let scripts = replay.scripts.as_slice();
     play_out(alloc, hub, scripts, replay.closings.as_slice())?;
     Ok(report_so_far(alloc, hub.front().house())?)
-}
-
-/// Plays an auction to its end, and writes the text of its report. Requires that the front has
-/// answered no request. Scripts and closings are dropped before the text is written, to free their
-/// memory.
-fn text_played<P: Processor>(
-    alloc: Global,
-    hub: &mut Hub<P>,
-    scripts: Scripts,
-    closings: Closings,
-) -> Result<Text, SimFault>
-    requires first { StandsForTexts [] hub.old.house }
-    requires scripts { AreScriptsOf hub.old.house.setup scripts }
-    ensures ok { IfOk result
-        (λ text. rules.played_text (replay_of hub.old.house scripts closings) ≡ Ok text) }
-    ensures err { IfErr result (IsRefusal SimFault.NoMemory
-        (rules.played_text (replay_of hub.old.house scripts closings))) }
-    ensures refusal_code { IfErr result rules.HasRefusalCode }
-{
-    let played = play_out(alloc, hub, scripts.as_slice(), closings.as_slice());
-    drop(scripts);
-    drop(closings);
-    played?;
-    Ok(final_text(alloc, hub.front().house())?)
 }
 
 /// Plays an auction like [`simulate`], with `processor` for bid processing.
@@ -115,16 +95,80 @@ pub fn simulate(alloc: Global, replay: &Replay) -> Result<Report, SimFault>
     simulate_with(alloc, replay, Woken)
 }
 
-/// Plays an auction, and returns the text of the report of [`simulate`]. Errors are those of
-/// [`simulate`]. Takes the replay so as to copy no sheet, and to free it before the text is
-/// written.
-pub fn replay_text(alloc: Global, replay: Replay) -> Result<Text, SimFault>
+/// Plays an auction to its end. Requires that the front has answered no request. Drops scripts and
+/// closings, to free their memory.
+fn play_and_free<P: Processor>(
+    alloc: Global,
+    hub: &mut Hub<P>,
+    scripts: Scripts,
+    closings: Closings,
+) -> Result<(), SimFault>
+    requires first { StandsForTexts [] hub.old.house }
+    requires scripts { AreScriptsOf hub.old.house.setup scripts }
+    ensures setup { hub.new.house.setup ≡ hub.old.house.setup }
+    ensures ok { OnOk result (rules.played_text (replay_of hub.old.house scripts closings)
+        ≡ Ok (report_text (report_of hub.new.house.setup hub.new.house.closed))) }
+    ensures ended { OnOk result ((state_in hub.new.house).ended ≡ true) }
+    ensures err { IfErr result (IsRefusal SimFault.NoMemory
+        (rules.played_text (replay_of hub.old.house scripts closings))) }
+    ensures refusal_code { IfErr result rules.HasRefusalCode }
+{
+    let played = play_out(alloc, hub, scripts.as_slice(), closings.as_slice());
+    drop(scripts);
+    drop(closings);
+    played
+}
+
+/// An auction that was played to its end, and what its report is written with. In contracts, it is
+/// the text of the report.
+#[derive(Drop)]
+pub struct PlayedReplay {
+    hub: Hub<Woken>,
+    writer: ReportWriter,
+}
+
+impl Model for PlayedReplay {
+    ghost use Rattle.std.specs.Prelude.{List, ℕ};
+    ghost use Rattle.clock_reports.specs.{FinalReport.{report_of}, ReportText.{report_text}};
+    ghost use Rattle.clock_sim.specs.inside.Steps.{IsPlayed};
+
+    ghost Value = { List ℕ };
+
+    ghost view = { λ p. report_text (report_of p.hub.house.setup p.hub.house.closed) };
+
+    ghost invariant = { λ p. IsPlayed p.hub.house p.writer };
+}
+
+impl PlayedReplay {
+    /// Writes the text of the report, or a prefix of it if a write fails. Allocates nothing.
+    pub fn write<W: Sink>(self, sink: &mut W) -> Result<(), Failed>
+        ensures bytes { WritesText (W.report sink.old).taken (W.report sink.new).taken
+            self result }
+        ensures failed { (W.report sink.new).has_failed
+            ≡ ((W.report sink.old).has_failed || is_err result) }
+    {
+        let PlayedReplay { hub, mut writer } = self;
+        let written = writer.write(sink, hub.front().house());
+        drop(hub);
+        written
+    }
+}
+
+/// Plays an auction like [`simulate`], and returns it, so that the text of its report can be
+/// written. Errors are those of [`simulate`]. Takes the replay so as to copy no sheet.
+pub fn play_replay(alloc: Global, replay: Replay) -> Result<PlayedReplay, SimFault>
     ensures ok { IfOk result (λ text. rules.played_text replay ≡ Ok text) }
     ensures err { IfErr result (IsRefusal SimFault.NoMemory (rules.played_text replay)) }
     ensures refusal_code { IfErr result rules.HasRefusalCode }
 {
+    // What the report is written with is allocated before the auction is played.
+    let writer = ReportWriter::new(alloc, &replay.setup)?;
     let mut hub = Hub::new(alloc, Front::new(alloc, replay.setup, Woken)?);
-    let text = text_played(alloc, &mut hub, replay.scripts, replay.closings);
-    drop(hub);
-    text
+    match play_and_free(alloc, &mut hub, replay.scripts, replay.closings) {
+        Ok(()) => Ok(PlayedReplay { hub, writer }),
+        Err(fault) => {
+            drop(hub);
+            Err(fault)
+        }
+    }
 }

@@ -1,10 +1,10 @@
 //! Reads documents, plays replays, and repeats each call that reports out of memory.
 use crate::record::Record;
 use crate::steering::watched;
-use clock_device::NoMemory;
+use clock_device::{ListSink, NoMemory};
 use clock_setup::{Opening, OpeningFault, Setup, SetupFault, read_opening, read_setup};
 use clock_sim::{
-    Replay, Report, ScriptFault, SimFault, read_replay, replay_text, report_text, simulate,
+    PlayedReplay, Replay, Report, ScriptFault, SimFault, read_replay, report_text, simulate,
 };
 use clock_views::products_page;
 use std::alloc::Global;
@@ -85,18 +85,21 @@ pub fn play_simulation(alloc: Global, record: &mut Record, document: &[u8]) -> a
     show_report(alloc, record, &simulate(alloc, &replay)?)
 }
 
-/// Plays the replay of a document and writes its report in one call, and again if the first is
-/// out of memory.
-pub fn play_replay_text(
-    alloc: Global,
-    record: &mut Record,
-    document: &[u8],
-) -> anyhow::Result<()> {
+/// Adds the text of the report of an auction that was played to its end.
+fn show_played(alloc: Global, record: &mut Record, played: PlayedReplay) -> anyhow::Result<()> {
+    let mut sink = ListSink::new(alloc, 100_000, 100, None)?;
+    played.write(&mut sink)?;
+    record.push_bytes(sink.bytes())
+}
+
+/// Plays the replay of a document as the program does, and again if the first call is out of
+/// memory.
+pub fn play_to_end(alloc: Global, record: &mut Record, document: &[u8]) -> anyhow::Result<()> {
     let replay = read_replay(alloc, document)?;
-    match watched(|| replay_text(alloc, replay)) {
+    match watched(|| clock_sim::play_replay(alloc, replay)) {
         Err(SimFault::NoMemory) => record.refuse(true),
-        first => return record.push_bytes(first?.as_slice()),
+        first => return show_played(alloc, record, first?),
     }
     let again = read_replay(alloc, document)?;
-    record.push_bytes(replay_text(alloc, again)?.as_slice())
+    show_played(alloc, record, clock_sim::play_replay(alloc, again)?)
 }

@@ -52,7 +52,7 @@ fn play(alloc: Global, record: &mut Record, parts: &[&str]) -> anyhow::Result<()
         ["opening", document] => documents::play_opening(alloc, record, document.as_bytes()),
         ["replay", document] => documents::play_replay(alloc, record, document.as_bytes()),
         ["simulate", document] => documents::play_simulation(alloc, record, document.as_bytes()),
-        ["replay_text", document] => documents::play_replay_text(alloc, record, document.as_bytes()),
+        ["play_replay", document] => documents::play_to_end(alloc, record, document.as_bytes()),
         [kind, "plain", document, rows @ ..] => {
             play_with(alloc, record, Plain, kind, document, rows)
         }

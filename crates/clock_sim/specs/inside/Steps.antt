@@ -1,6 +1,7 @@
 -- The result of a step of a rehearsal, for the functions that make it.
 --     replay_of house scripts closings      the replay of scripts and closings in the auction of a
 --         house
+--     IsPlayed house writer      the auction has ended, and its report can be written
 --     AreScriptsOf setup scripts      there is a script for each bidder
 --     IsGoing house      the auction of a house has not ended
 --     IsResultByCode code fault result      the result of a request, by the code of its reply
@@ -10,7 +11,8 @@
 --     IsLeft rest answer house      the steps that are left, from what the house stands for, have
 --         this answer
 --     MakesWay whole rest old new result      some of the steps were made, and the rest is left
-use Rattle.std.specs.Prelude.{◌≡◌, ◌≢◌, ℕ, List, All, length, false, Result, Ok, Err, MatchResult}
+use Rattle.std.specs.Prelude.{◌≡◌, ◌≢◌, ℕ, List, All, length, true, false, Result, Ok, Err}
+use Rattle.std.specs.Prelude.{MatchResult}
 use Rattle.clock_terms.specs.Faults.{IsRefusal}
 use Rattle.clock_house.specs.House.{HouseFields, state_in}
 use Rattle.clock_http.specs.declared.code.Code.{Code}
@@ -20,6 +22,7 @@ use Rattle.clock_replays.specs.declared.replay.Script.{Script}
 use Rattle.clock_replays.specs.declared.replay.Closing.{Closing}
 use Rattle.clock_terms.specs.Limits.{SetupFields}
 use Rattle.clock_replays.specs.Replays.{ReplayFields, IsScript}
+use Rattle.clock_reports.specs.Writers.{WriterFields, new_writer}
 use Rattle.clock_scripts.specs.declared.fault.SimFault.{SimFault}
 use Rattle.clock_scripts.specs.declared.fault.SimFault.TheVariants.{NoMemory}
 
@@ -27,6 +30,11 @@ use Rattle.clock_scripts.specs.declared.fault.SimFault.TheVariants.{NoMemory}
 abbrev pub replay_of : HouseFields → List Script → List Closing → ReplayFields
 replay_of house scripts closings =
     record { setup = house.setup; scripts = scripts; closings = closings }
+
+-- the auction of a house has ended, and the writer of its report has written nothing
+pub record IsPlayed (house : HouseFields) (writer : WriterFields) : Type 0 where
+  pub ended : (state_in house).ended ≡ true
+  pub fresh : writer ≡ new_writer (length house.setup.products)
 
 -- a script for each bidder, made for the products
 pub record AreScriptsOf (setup : SetupFields) (scripts : List Script) : Type 0 where

@@ -1,7 +1,7 @@
 -- One step of the loop: the text of one product more.
 use Rattle.std.proofs.Common.{◌≡◌, ◌+◌, ◌-◌, ◌++◌, ℕ, suc, List, sym, ap, ◌∙◌, append_assoc, arith}
 use Rattle.std.specs.Prelude.{codes}
-use Rattle.clock_reports.specs.inside.WonLines.{none_held}
+use Rattle.clock_reports.specs.Writers.{none_held}
 use Rattle.clock_reports.proofs.WonLaws.{none_more}
 use Rattle.clock_reports.proofs.report_lines.none_held_text.Goals as goal
 

@@ -1,5 +1,5 @@
 use Rattle.std.proofs.Common.{◌≡◌, ◌-◌, ◌++◌}
-use Rattle.clock_reports.specs.inside.WonLines.{none_held}
+use Rattle.clock_reports.specs.Writers.{none_held}
 use Rattle.clock_reports.proofs.report_lines.none_held_text.Given as goal
 
 -- the text so far, followed by that of the products left, is the whole

@@ -2,6 +2,9 @@
 use Rattle.clock_sim.proofs.StepLaws.{reported, faulted}
 use Rattle.clock_sim.proofs.simulation.play_out.Goals as goal
 
+pub returns-clause-setup : goal.returns-clause-setup
+returns-clause-setup g c = c.play.ensures.step.setup
+
 pub returns-clause-ok : goal.returns-clause-ok
 returns-clause-ok g c = reported c.args.hub.now.house c.play.new.hub.house c.args.scripts.now c.args.closings.now
     c.play.result c.requires.first c.play.ensures.step

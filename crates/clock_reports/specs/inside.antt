@@ -1,2 +1,0 @@
--- Definitions that only proofs and private functions use. No clause of a public call names one.
-pub mod WonLines
