@@ -58,7 +58,7 @@ taken_whole : (a b : List ℕ) → take (length a) (a ++ b) ≡ a
 taken_whole [] b = refl
 taken_whole (x ∷ a) b = ap (λ (rest : List ℕ). x ∷ rest) (taken_whole a b)
 
--- bytes that were copied behind those that wait
+-- bytes that were copied after those that wait
 pub copied : (old new bytes : List ℕ) (used end : ℕ) → end ≡ used + length bytes → take used new ≡ take used old
     → drop used new ≡ bytes ++ drop end old → take end new ≡ take used old ++ bytes
 copied old new bytes used end is ahead behind =
@@ -74,7 +74,7 @@ lent old new len is same =
     ap (λ (rest : List ℕ). take len (new ++ rest)) (drop_all (length new) old (omega (arith, same)))
     ∙ (ap (λ (all : List ℕ). take len all) (append-nil new) ∙ take_all len new (omega (arith, is, same)))
 
--- the bytes that wait after some were copied behind them
+-- the bytes that wait, once more bytes were copied after them
 pub now_wait : (old new bytes : List ℕ) (len used end : ℕ) → len ≡ length old → length new ≡ length old
     → take end new ≡ take used old ++ bytes
     → take end (take len (new ++ drop (length new) old)) ≡ take used old ++ bytes

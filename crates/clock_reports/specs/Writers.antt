@@ -19,7 +19,7 @@ pub record WriterFields : Type 0 where
   pub buffer : BufferFields
   pub none : List ℕ
 
--- a writer for auctions of so many products that has written nothing
+-- a writer that has written nothing, for auctions of this number of products
 abbrev pub new_writer : ℕ → WriterFields
 new_writer products = record {
   buffer = record { waiting = []; has_failed = false };

@@ -29,7 +29,8 @@ returns g c =
     c.as_slice-lines.ensures ∙ ap (λ (sheet : RoundSheet). sheet.lines)
     (any_default sheets (length sheets - 1) last none within) in
     let text = ap (λ (list : List Line). flat_map (won_text list) (zip bidders grid)) lines
-    ∙ ap (λ (list : List RoundSheet). flat_map (won_text (last_lines list)) (zip bidders grid)) c.as_slice-sheets.ensures
+    ∙ ap (λ (list : List RoundSheet). flat_map (won_text (last_lines list)) (zip bidders grid))
+    c.as_slice-sheets.ensures
     ∙ ap (λ (report : ReportFields). wins_text report) c.report.view_is in
     subst (Puts (output (g.W.Sink.report c.args.sink.now) c.args.buffer.now)
     (output (g.W.Sink.report c.write_wins.new.sink) c.write_wins.new.buffer)) text c.write_wins.ensures
