@@ -25,13 +25,13 @@ def is_fault(run: Run[None], _: Run[None]) -> bool:
 
 
 def refuse_each_of(shim: Shim, words: list[str], document: str = "") -> None:
-    """Refuses each allocation of a command. There are at least 100."""
+    """Refuses each allocation of a command. There are at least 50."""
     wanted, wrong = refuse_each(
         lambda refused: shim.run(words, refused, nothing, document.encode()), is_fault
     )
     assert wrong == []
     assert wanted.end[0] == 0
-    assert wanted.growths >= 100
+    assert wanted.growths >= 50
 
 
 @pytest.mark.parametrize(("words", "document"), COMMANDS.values(), ids=COMMANDS)
