@@ -8,3 +8,5 @@ pub mod Readings
 pub mod Writings
 pub mod SourceState
 pub mod SinkState
+pub mod Buffers
+pub mod inside

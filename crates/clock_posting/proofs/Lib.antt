@@ -5,4 +5,3 @@ pub mod Posted
 pub mod NextPrices
 mod Examples
 pub mod SheetLines
-pub mod Buffers

@@ -1,4 +1,3 @@
 -- Definitions that only proofs and private functions use. No clause of a public call cites them.
 pub mod RoundEnd
 pub mod Parts
-pub mod Ways

@@ -1,10 +1,8 @@
 ghost use Rattle.std.specs.Prelude.{◌≡◌, ◌≤◌, ◌+◌, ◌++◌, IfOk, codes, drop, length};
-ghost use Rattle.clock_device.specs.Decimal.{number_or_dash};
-ghost use Rattle.clock_posting.specs.{Buffers.{Puts, output}, SheetText.{sheet_text, line_text}};
+ghost use Rattle.clock_device.specs.{Buffers.{Puts, output}, Decimal.{number_or_dash}};
+ghost use Rattle.clock_posting.specs.SheetText.{sheet_text, line_text};
 
-use crate::buffer::Buffer;
-use crate::text_sink::TextSink;
-use clock_device::{Items, NoMemory, Sink, Text, put_before};
+use clock_device::{Buffer, Items, NoMemory, Sink, Text, TextSink, put_before};
 use clock_money::Price;
 use clock_terms::{Product, Setup};
 use itoa::write_digits;

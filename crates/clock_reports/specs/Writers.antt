@@ -4,7 +4,7 @@
 --     WriterFields, new_writer      a writer; one that has written nothing
 use Rattle.std.specs.Prelude.{ℕ, List, [], ◌++◌, codes, decimal, false, replicate}
 use Rattle.std.specs.List.{flat_map}
-use Rattle.clock_posting.specs.Buffers.{BufferFields}
+use Rattle.clock_device.specs.Buffers.{BufferFields}
 
 -- a demand followed by a space
 abbrev pub demand_text : ℕ → List ℕ

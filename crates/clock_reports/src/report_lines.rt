@@ -3,18 +3,17 @@
 ghost use Rattle.std.specs.Prelude.{◌≡◌, ◌≤◌, ◌++◌, ◌||◌, [], All, IfOk, length, decimal, codes};
 ghost use Rattle.std.specs.Prelude.{if◌then◌else◌, is_err, true, zip};
 ghost use Rattle.std.specs.List.{flat_map};
-ghost use Rattle.clock_device.specs.Streams.{WritesText};
+ghost use Rattle.clock_device.specs.{Buffers.{Puts, output}, Streams.{WritesText}};
 ghost use Rattle.clock_terms.specs.Limits.{most_products};
-ghost use Rattle.clock_posting.specs.Buffers.{Puts, output};
 ghost use Rattle.clock_house.specs.House.{state_in};
 ghost use Rattle.clock_reports.specs.Writers.{WriterFields, new_writer, none_held};
 ghost use Rattle.clock_reports.specs.ReportText as words;
 ghost use Rattle.clock_reports.specs.FinalReport as rules;
 
 use crate::report::{Report, sheet_at};
-use clock_device::{Failed, NoMemory, Sink, Text};
+use clock_device::{Buffer, Failed, NoMemory, Sink, Text, TextSink};
 use clock_house::House;
-use clock_posting::{Buffer, Line, RoundSheet, TextSink, write_sheet};
+use clock_posting::{Line, RoundSheet, write_sheet};
 use clock_terms::{Bidder, Grid, Row, Setup};
 use std::alloc::Global;
 use std::marker::Model;

@@ -2,7 +2,7 @@
 use Rattle.std.proofs.Common.{Some, []}
 use Rattle.clock_device.specs.Reports.{unused}
 use Rattle.clock_posting.specs.SheetText.{sheet_text}
-use Rattle.clock_posting.proofs.Buffers.{begun}
+use Rattle.clock_device.proofs.Buffers.{begun}
 use Rattle.clock_posting.proofs.sheet.sheet_lines.Goals as goal
 
 pub returns : goal.returns

@@ -2,7 +2,7 @@
 use Rattle.std.proofs.Common.{◌≡◌, ◌++◌, ◌-◌, List, ℕ, ap, codes, decimal, drop, length-drop, rules, subst, take, ◌∙◌}
 use Rattle.std.proofs.lemmas.List.{take_all}
 use Rattle.clock_device.specs.Decimal.{number_or_dash}
-use Rattle.clock_posting.specs.Buffers.{IsPut, output}
+use Rattle.clock_device.specs.Buffers.{IsPut, output}
 use Rattle.clock_posting.proofs.SheetLines.{line_added}
 use Rattle.clock_posting.proofs.sheet.write_line.Goals as goal
 

@@ -4,9 +4,9 @@ use Rattle.std.proofs.Common.{codes, decimal, subst, ◌∙◌}
 use Rattle.std.proofs.lemmas.List.{drop_all, drop_more}
 use Rattle.clock_terms.specs.declared.setup.Product.{Product}
 use Rattle.clock_posting.specs.declared.sheet.Line.{Line}
-use Rattle.clock_posting.specs.Buffers.{Puts, output}
+use Rattle.clock_device.specs.Buffers.{Puts, output}
 use Rattle.clock_posting.specs.SheetText.{line_text, lines_text}
-use Rattle.clock_posting.proofs.Buffers.{put_twice, way_begins, way_ends, way_on}
+use Rattle.clock_device.proofs.Buffers.{put_twice, way_begins, way_ends, way_on}
 use Rattle.clock_posting.proofs.sheet.write_sheet.Goals as goal
 
 -- the line of the next product comes first

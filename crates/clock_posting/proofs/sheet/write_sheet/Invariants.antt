@@ -1,7 +1,7 @@
 use Rattle.std.proofs.Common.{drop}
-use Rattle.clock_posting.specs.Buffers.{output}
+use Rattle.clock_device.specs.Buffers.{output}
 use Rattle.clock_posting.specs.SheetText.{lines_text}
-use Rattle.clock_posting.specs.inside.Ways.{IsOnWay}
+use Rattle.clock_device.specs.inside.Ways.{IsOnWay}
 use Rattle.clock_posting.proofs.sheet.write_sheet.Given as goal
 
 -- The lines of the products still to come are left.

@@ -1,7 +1,7 @@
 -- The text is what was put into the buffer.
 use Rattle.std.proofs.Common.{[], Some, ap, ◌∙◌}
 use Rattle.clock_device.specs.Reports.{unused}
-use Rattle.clock_posting.proofs.Buffers.{begun}
+use Rattle.clock_device.proofs.Buffers.{begun}
 use Rattle.clock_reports.specs.ReportText.{report_text}
 use Rattle.clock_reports.specs.Writers.{WriterFields}
 use Rattle.clock_reports.proofs.report_lines.report_text.Goals as goal

@@ -3,7 +3,7 @@ use Rattle.std.proofs.Common.{◌≡◌, ◌<◌, ◌≤◌, ◌+◌, ◌++◌, 
 use Rattle.std.proofs.Common.{subst, sym, ◌∙◌}
 use Rattle.std.specs.Prelude.{zip}
 use Rattle.clock_posting.specs.declared.sheet.RoundSheet.{RoundSheet}
-use Rattle.clock_posting.proofs.Buffers.{way_begins, way_ends, way_on}
+use Rattle.clock_device.proofs.Buffers.{way_begins, way_ends, way_on}
 use Rattle.clock_reports.specs.Reports.{ReportFields}
 use Rattle.clock_reports.specs.ReportText.{audited_round}
 use Rattle.clock_reports.proofs.Rows.{next_pair, no_pair}

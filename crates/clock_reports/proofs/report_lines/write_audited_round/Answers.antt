@@ -1,6 +1,6 @@
 -- The lines of the round, and then the parts of the line with its digest.
 use Rattle.std.proofs.Common.{codes, decimal}
-use Rattle.clock_posting.proofs.Buffers.{put_twice}
+use Rattle.clock_device.proofs.Buffers.{put_twice}
 use Rattle.clock_reports.proofs.report_lines.write_audited_round.Goals as goal
 
 pub returns : goal.returns

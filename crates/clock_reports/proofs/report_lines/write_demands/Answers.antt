@@ -4,7 +4,7 @@ use Rattle.std.proofs.Common.{codes, decimal, drop, get_or, length, refl, take, 
 use Rattle.std.specs.List.{AllWithin}
 use Rattle.std.proofs.lemmas.Bool.{cases_lt}
 use Rattle.std.proofs.lemmas.List.{length-take}
-use Rattle.clock_posting.proofs.Buffers.{way_ends, way_on}
+use Rattle.clock_device.proofs.Buffers.{way_ends, way_on}
 use Rattle.clock_reports.specs.Writers.{demand_text, none_held}
 use Rattle.clock_reports.proofs.WonLaws.{front_of_none, length-none_held, none_left, one_held}
 use Rattle.clock_reports.proofs.report_lines.write_demands.Goals as goal

@@ -1,7 +1,7 @@
 use Rattle.std.proofs.Common.{◌≡◌, ◌≤◌, ◌-◌, drop, flat_map, length}
 use Rattle.std.specs.List.{AllWithin}
-use Rattle.clock_posting.specs.Buffers.{output}
-use Rattle.clock_posting.specs.inside.Ways.{IsOnWay}
+use Rattle.clock_device.specs.Buffers.{output}
+use Rattle.clock_device.specs.inside.Ways.{IsOnWay}
 use Rattle.clock_reports.specs.Writers.{demand_text}
 use Rattle.clock_reports.proofs.report_lines.write_demands.Given as goal
 

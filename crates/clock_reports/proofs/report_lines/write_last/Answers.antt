@@ -4,7 +4,7 @@ use Rattle.std.specs.Prelude.{reverse, slice_get, slice_index_or}
 use Rattle.std.specs.List.{flat_map}
 use Rattle.std.proofs.lemmas.List.{length-map, length-reverse}
 use Rattle.clock_terms.specs.Limits.{SetupFields}
-use Rattle.clock_posting.specs.Buffers.{Puts, output}
+use Rattle.clock_device.specs.Buffers.{Puts, output}
 use Rattle.clock_posting.specs.declared.sheet.Line.{Line}
 use Rattle.clock_posting.specs.declared.sheet.RoundSheet.{RoundSheet}
 use Rattle.clock_closing.specs.declared.closed_round.ClosedRound.{ClosedRound}

@@ -6,7 +6,7 @@ use Rattle.std.proofs.lemmas.List.{length-map, length-reverse}
 use Rattle.clock_terms.specs.Limits.{SetupFields}
 use Rattle.clock_posting.specs.SheetText.{sheet_text}
 use Rattle.clock_posting.specs.declared.sheet.RoundSheet.{RoundSheet}
-use Rattle.clock_posting.proofs.Buffers.{way_begins, way_ends, way_on}
+use Rattle.clock_device.proofs.Buffers.{way_begins, way_ends, way_on}
 use Rattle.clock_closing.specs.declared.closed_round.ClosedRound.{ClosedRound}
 use Rattle.clock_house.specs.House.{HouseFields}
 use Rattle.clock_reports.proofs.RoundLaws.{drop_next}

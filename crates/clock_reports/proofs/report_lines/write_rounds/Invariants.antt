@@ -1,9 +1,9 @@
 use Rattle.std.proofs.Common.{drop, map}
 use Rattle.std.specs.Prelude.{reverse}
 use Rattle.std.specs.List.{flat_map}
-use Rattle.clock_posting.specs.Buffers.{output}
+use Rattle.clock_device.specs.Buffers.{output}
 use Rattle.clock_posting.specs.SheetText.{sheet_text}
-use Rattle.clock_posting.specs.inside.Ways.{IsOnWay}
+use Rattle.clock_device.specs.inside.Ways.{IsOnWay}
 use Rattle.clock_reports.proofs.report_lines.write_rounds.Given as goal
 
 -- the lines of the rounds still to come are left

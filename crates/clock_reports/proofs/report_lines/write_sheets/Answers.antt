@@ -2,7 +2,7 @@
 use Rattle.std.proofs.Common.{◌≡◌, ◌<◌, ◌≤◌, ◌+◌, ◌++◌, List, ap, drop, flat_map, get_or, length, subst, sym, ◌∙◌}
 use Rattle.clock_posting.specs.SheetText.{sheet_text}
 use Rattle.clock_posting.specs.declared.sheet.RoundSheet.{RoundSheet}
-use Rattle.clock_posting.proofs.Buffers.{way_begins, way_ends, way_on}
+use Rattle.clock_device.proofs.Buffers.{way_begins, way_ends, way_on}
 use Rattle.clock_reports.specs.Reports.{ReportFields}
 use Rattle.clock_reports.proofs.Rows.{next_one, no_one}
 use Rattle.clock_reports.proofs.report_lines.write_sheets.Goals as goal

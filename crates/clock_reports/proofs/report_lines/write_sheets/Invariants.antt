@@ -1,8 +1,8 @@
 use Rattle.std.proofs.Common.{drop}
 use Rattle.std.specs.List.{flat_map}
-use Rattle.clock_posting.specs.Buffers.{output}
+use Rattle.clock_device.specs.Buffers.{output}
 use Rattle.clock_posting.specs.SheetText.{sheet_text}
-use Rattle.clock_posting.specs.inside.Ways.{IsOnWay}
+use Rattle.clock_device.specs.inside.Ways.{IsOnWay}
 use Rattle.clock_reports.proofs.report_lines.write_sheets.Given as goal
 
 -- the lines of the rounds still to come are left

@@ -1,7 +1,7 @@
 -- The parts of a bidder's line, one after the other.
 use Rattle.std.proofs.Common.{◌++◌, List, ℕ, ap₂, codes, decimal, flat_map, subst}
-use Rattle.clock_posting.specs.Buffers.{Puts, output}
-use Rattle.clock_posting.proofs.Buffers.{put_twice}
+use Rattle.clock_device.specs.Buffers.{Puts, output}
+use Rattle.clock_device.proofs.Buffers.{put_twice}
 use Rattle.clock_reports.specs.Writers.{demand_text}
 use Rattle.clock_reports.proofs.report_lines.write_win.Goals as goal
 

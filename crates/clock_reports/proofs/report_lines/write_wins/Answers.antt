@@ -2,7 +2,7 @@
 use Rattle.std.proofs.Common.{◌≡◌, ◌<◌, ◌≤◌, ℕ, List, [], ap, get_or, length, subst, sym, ◌∙◌}
 use Rattle.clock_terms.specs.Limits.{SetupFields}
 use Rattle.clock_terms.specs.declared.setup.Bidder.{Bidder}
-use Rattle.clock_posting.proofs.Buffers.{way_begins, way_ends, way_on}
+use Rattle.clock_device.proofs.Buffers.{way_begins, way_ends, way_on}
 use Rattle.clock_reports.specs.ReportText.{won_text}
 use Rattle.clock_reports.proofs.Rows.{next_pair, no_pair}
 use Rattle.clock_reports.proofs.report_lines.write_wins.Goals as goal

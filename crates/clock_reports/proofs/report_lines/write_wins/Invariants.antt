@@ -1,7 +1,7 @@
 use Rattle.std.proofs.Common.{drop, zip}
 use Rattle.std.specs.List.{flat_map}
-use Rattle.clock_posting.specs.Buffers.{output}
-use Rattle.clock_posting.specs.inside.Ways.{IsOnWay}
+use Rattle.clock_device.specs.Buffers.{output}
+use Rattle.clock_device.specs.inside.Ways.{IsOnWay}
 use Rattle.clock_reports.specs.ReportText.{won_text}
 use Rattle.clock_reports.proofs.report_lines.write_wins.Given as goal
 

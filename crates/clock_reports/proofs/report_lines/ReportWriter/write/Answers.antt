@@ -1,6 +1,6 @@
 -- The text is what was put into the buffer.
 use Rattle.std.proofs.Common.{[], ap, refl, ◌∙◌}
-use Rattle.clock_posting.proofs.Buffers.{begun}
+use Rattle.clock_device.proofs.Buffers.{begun}
 use Rattle.clock_reports.specs.Writers.{WriterFields}
 use Rattle.clock_reports.proofs.report_lines.ReportWriter.write.Goals as goal
 

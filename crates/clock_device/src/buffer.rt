@@ -1,10 +1,11 @@
 ghost use Rattle.std.specs.Prelude.{◌≡◌, ◌≤◌, ◌+◌, ◌++◌, [], List, ℕ, IfOk, decimal, length, take};
 ghost use Rattle.std.specs.Prelude.{false};
-ghost use Rattle.clock_device.specs.Reports.{SinkReport};
-ghost use Rattle.clock_posting.specs.Buffers.{BufferFields, IsPut, IsPutIf, IsWrittenOut, Puts};
-ghost use Rattle.clock_posting.specs.Buffers.{output};
+ghost use Rattle.clock_device.specs.Buffers.{BufferFields, IsPut, IsPutIf, IsWrittenOut, Puts};
+ghost use Rattle.clock_device.specs.{Buffers.{output}, Reports.{SinkReport}};
 
-use clock_device::{Failed, NoMemory, Sink, put_before, room_for_read, write_all};
+use crate::decimal::put_before;
+use crate::items::NoMemory;
+use crate::stream::{Failed, Sink, room_for_read, write_all};
 use itoa::Buffer as Digits;
 use std::alloc::Global;
 use std::marker::Model;
@@ -29,7 +30,7 @@ pub struct Buffer {
 
 impl Model for Buffer {
     ghost use Rattle.std.specs.Prelude.{take, vec_len, ◌≡◌, ◌≤◌};
-    ghost use Rattle.clock_posting.specs.Buffers.{BufferFields};
+    ghost use Rattle.clock_device.specs.Buffers.{BufferFields};
 
     ghost Value = { BufferFields };
 

@@ -1,8 +1,8 @@
 -- Nothing waits after what waited was written. Then the bytes wait, or are written too.
 use Rattle.std.proofs.Common.{◌≡◌, ◌++◌, [], List, ℕ, ap, rules, subst, take, sym, ◌∙◌}
-use Rattle.clock_posting.specs.Buffers.{BufferFields, IsPut, IsPutIf, output}
-use Rattle.clock_posting.proofs.Buffers.{more_wait, now_wait}
-use Rattle.clock_posting.proofs.buffer.Buffer.put_beyond.Goals as goal
+use Rattle.clock_device.specs.Buffers.{BufferFields, IsPut, IsPutIf, output}
+use Rattle.clock_device.proofs.Buffers.{more_wait, now_wait}
+use Rattle.clock_device.proofs.buffer.Buffer.put_beyond.Goals as goal
 
 pub returns-then-bytes-le-PIECE : goal.returns-then-bytes-le-PIECE
 returns-then-bytes-le-PIECE g c = λ start text put.

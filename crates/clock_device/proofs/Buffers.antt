@@ -6,9 +6,9 @@ use Rattle.std.proofs.lemmas.List.{drop_all, take_all}
 use Rattle.clock_device.specs.Reports.{SinkReport}
 use Rattle.clock_device.specs.Streams.{HasWritten, HasWrittenFront, WritesText}
 use Rattle.clock_device.proofs.Streams.{front_beyond, front_written, take_further, written_twice}
-use Rattle.clock_posting.specs.Buffers.{BufferFields, IsCollected, IsPut, IsPutIf, Output, Puts}
-use Rattle.clock_posting.specs.Buffers.{output}
-use Rattle.clock_posting.specs.inside.Ways.{IsOnWay}
+use Rattle.clock_device.specs.Buffers.{BufferFields, IsCollected, IsPut, IsPutIf, Output, Puts}
+use Rattle.clock_device.specs.Buffers.{output}
+use Rattle.clock_device.specs.inside.Ways.{IsOnWay}
 
 -- more bytes wait
 pub more_wait : (has_failed : Bool) (start now : SinkReport) (waiting text more : List ℕ)

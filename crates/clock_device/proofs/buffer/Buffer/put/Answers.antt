@@ -1,8 +1,8 @@
 -- The bytes wait after those before them.
 use Rattle.std.proofs.Common.{◌≡◌, ◌++◌, List, ℕ, rules, subst, sym, take}
-use Rattle.clock_posting.specs.Buffers.{BufferFields, IsPut, IsPutIf, output}
-use Rattle.clock_posting.proofs.Buffers.{more_wait, now_wait}
-use Rattle.clock_posting.proofs.buffer.Buffer.put.Goals as goal
+use Rattle.clock_device.specs.Buffers.{BufferFields, IsPut, IsPutIf, output}
+use Rattle.clock_device.proofs.Buffers.{more_wait, now_wait}
+use Rattle.clock_device.proofs.buffer.Buffer.put.Goals as goal
 
 pub returns-then-bytes-self : goal.returns-then-bytes-self
 returns-then-bytes-self g c = λ start text put.

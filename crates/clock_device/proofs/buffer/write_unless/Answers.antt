@@ -1,8 +1,8 @@
 -- What waited is written.
 use Rattle.std.proofs.Common.{[], Bool, subst, sym}
-use Rattle.clock_posting.specs.Buffers.{IsPutIf}
-use Rattle.clock_posting.proofs.Buffers.{written_out}
-use Rattle.clock_posting.proofs.buffer.write_unless.Goals as goal
+use Rattle.clock_device.specs.Buffers.{IsPutIf}
+use Rattle.clock_device.proofs.Buffers.{written_out}
+use Rattle.clock_device.proofs.buffer.write_unless.Goals as goal
 
 pub returns : goal.returns
 returns g c = λ start text put.

@@ -3,7 +3,7 @@
 --     IsOnWay old now rest whole      after any text before, the rest is left of this whole
 use Rattle.std.specs.Prelude.{◌≡◌, ◌++◌, ℕ, List}
 use Rattle.clock_device.specs.Reports.{SinkReport}
-use Rattle.clock_posting.specs.Buffers.{IsPut, Output}
+use Rattle.clock_device.specs.Buffers.{IsPut, Output}
 
 -- all but the rest was put since the sink reported `start`
 pub record IsDue (start : SinkReport) (now : Output) (rest whole : List ℕ) : Type 0 where

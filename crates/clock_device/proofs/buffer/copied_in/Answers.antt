@@ -1,7 +1,7 @@
 -- The bytes before them are unchanged.
 use Rattle.std.proofs.Common.{◌≡◌, ◌+◌, ◌++◌, ℕ, arith, drop, length, refl, subst, take}
-use Rattle.clock_posting.proofs.Buffers.{copied}
-use Rattle.clock_posting.proofs.buffer.copied_in.Goals as goal
+use Rattle.clock_device.proofs.Buffers.{copied}
+use Rattle.clock_device.proofs.buffer.copied_in.Goals as goal
 
 pub returns-clause-copied : goal.returns-clause-copied
 returns-clause-copied c =

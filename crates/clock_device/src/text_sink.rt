@@ -1,9 +1,9 @@
 ghost use Rattle.std.specs.Prelude.{◌≡◌, ℕ, List, Some, [], IfOk};
-ghost use Rattle.clock_device.specs.Reports.{unused};
-ghost use Rattle.clock_posting.specs.Buffers.{IsPut, output};
+ghost use Rattle.clock_device.specs.{Buffers.{IsPut, output}, Reports.{unused}};
 
 use crate::buffer::Buffer;
-use clock_device::{Failed, NoMemory, Sink, Text};
+use crate::items::{NoMemory, Text};
+use crate::stream::{Failed, Sink};
 use std::alloc::Global;
 use std::marker::Model;
 

@@ -1,0 +1,2 @@
+-- Definitions that only proofs and private functions use. No clause of a public call cites them.
+pub mod Ways
