@@ -1,7 +1,8 @@
 -- The starts of groups, from which a search for a product begins. They are right in an empty row and when a row is
 -- read. Inserting or removing an entry moves the starts of all later groups by one.
 use Rattle.std.proofs.Common.{◌≡◌, ℕ, ◌+◌, ◌-◌, ◌*◌, ◌/◌, ◌<◌, ◌≤◌, List, [], length, get_or, insert, remove, replicate}
-use Rattle.std.proofs.Common.{ap, sym, subst, ◌∙◌, ⊎_elim, arith}
+use Rattle.std.proofs.Common.{ap, sym, subst, take, drop, ◌∙◌, ◌++◌, ⊎_elim, arith}
+use Rattle.std.proofs.Math.Seq.{take-append_seam}
 use Rattle.std.proofs.lemmas.Bool.{cases_lt, cases_eq}
 use Rattle.std.proofs.lemmas.List.{get_or_default, get_or-replicate, length-replicate}
 use Rattle.std.proofs.lemmas.List.Edits.{length-insert, length-remove, get_or-insert_at, get_or-insert_below}
@@ -210,3 +211,8 @@ starts_taken held after count place taken starts moved took order stands are eac
     (λ (behind : taken / group_size + 1 ≤ group). subst IsFirst (sym (move group behind within)) (start_moved_back held
     place (group * group_size) taken (get_or starts group 0) stands (omega (arith, behind)) first))
     (cases_lt group (taken / group_size + 1)))
+
+-- a list of which each entry was written through a slice
+pub rewritten : (count : ℕ) (now old : List ℕ) → count ≡ length now → take count (now ++ drop (length now) old) ≡ now
+rewritten count now old whole = ap (λ (n : ℕ). take n (now ++ drop (length now) old)) whole
+    ∙ take-append_seam now (drop (length now) old)

@@ -103,6 +103,8 @@ fn put_in(held: &mut Vec<PositiveDemand>, starts: &mut Vec<u16>, place: usize, o
 {
     held.insert(place, one).unwrap();
     let from = one.product as usize / GROUP_SIZE + 1;
+    // A slice: its address stays in a register while the loop writes.
+    let starts = starts.as_mut_slice();
     for group in from..starts.len() {
         starts[group] += 1;
     }
@@ -121,6 +123,7 @@ fn take_out(held: &mut Vec<PositiveDemand>, starts: &mut Vec<u16>, place: usize,
 {
     held.remove(place);
     let from = product / GROUP_SIZE + 1;
+    let starts = starts.as_mut_slice();
     for group in from..starts.len() {
         starts[group] -= 1;
     }
