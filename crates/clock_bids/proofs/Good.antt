@@ -195,6 +195,21 @@ module _ (products : List Product) (prices : List PricePair) (demands : List ℕ
   good_bids_chains none = subst (λ part. AreGoodChains products prices demands part)
       (take_all (length bids) bids (omega arith)) (good_up_to none (length bids) (omega arith))
 
+  -- if no bid has a fault, none is above the cap of its product
+  pub good_bids_capped : first_fault (checks_of_bids products prices demands bids) ≡ None
+      → All (λ bid. bid.quantity ≤ cap_of products bid.product) bids
+  good_bids_capped none place d within =
+      let passed = each_passes (λ i bid. bid_checks products prices demands (take i bids) i bid) 0 bids none place place d
+      (omega arith) within in
+      let good = so_far_good products prices demands (take place bids) place (get_or bids place d) passed in
+      good.in_range.capped
+
+pub good_sheet_capped : (setup : PublicSetup) (round : ℕ) (prices : List PricePair) (holding : Holding)
+    (bids : List Bid) → IsGoodSheet setup round prices holding bids
+    → All (λ bid. bid.quantity ≤ cap_of setup.products bid.product) bids
+good_sheet_capped setup round prices holding bids good = good_bids_capped setup.products prices holding.demands bids
+    (no_sheet_fault setup round prices holding bids good).passed
+
 pub good_sheet_chains : (setup : PublicSetup) (round : ℕ) (prices : List PricePair) (holding : Holding)
     (bids : List Bid) → IsGoodSheet setup round prices holding bids
     → AreGoodChains setup.products prices holding.demands bids

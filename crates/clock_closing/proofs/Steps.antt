@@ -1,14 +1,14 @@
 -- Proves what each step of a closing requires, from the invariant of an open round.
-use Rattle.std.proofs.Common.{◌≡◌, ℕ, ◌<◌, List, true, false, refl, ap, subst, ◌∙◌, arith, length, All}
+use Rattle.std.proofs.Common.{◌≡◌, ℕ, ◌<◌, ◌≤◌, List, true, false, refl, ap, subst, ◌∙◌, arith, length, All}
 use Rattle.std.specs.Prelude.{None}
 use Rattle.std.proofs.lemmas.List.{length-map}
 use Rattle.clock_terms.specs.declared.increments.Increments.{Increments}
 use Rattle.clock_terms.specs.declared.setup.Product.{Product}
-use Rattle.clock_terms.specs.Limits.{IsRow, SetupFields, public_setup}
+use Rattle.clock_terms.specs.Limits.{IsRow, SetupFields, cap_of, public_setup}
 use Rattle.clock_terms.specs.Increments.{are_increments}
 use Rattle.clock_terms.specs.Demands.{IsGrid}
 use Rattle.clock_bids.specs.Sheet.{asked_demands}
-use Rattle.clock_bids.proofs.Good.{good_sheet_chains, good_sheet_row}
+use Rattle.clock_bids.proofs.Good.{good_sheet_capped, good_sheet_chains, good_sheet_row}
 use Rattle.clock_order.specs.declared.ties.Tie.{Tie}
 use Rattle.clock_order.specs.Ties.{tie_fault}
 use Rattle.clock_processor.specs.Board.{IsWithinEligibility}
@@ -33,6 +33,13 @@ module _ (round : OpenRoundFields) (is : IsOpenRound round) where
     known_bids = (good_sheet_chains (public_setup round.setup) round.before.public_state.round
         round.before.public_state.prices (holding_at round.before.holdings bidder) (bids_at round.before.sheets bidder)
         (is.sound.good bidder in_range)).known
+
+    -- None is above the cap of its product.
+    pub capped_bids : All (λ bid. bid.quantity ≤ cap_of round.setup.products bid.product)
+        (bids_at round.before.sheets bidder)
+    capped_bids =
+        good_sheet_capped (public_setup round.setup) round.before.public_state.round round.before.public_state.prices
+        (holding_at round.before.holdings bidder) (bids_at round.before.sheets bidder) (is.sound.good bidder in_range)
 
     -- The requested demands of a sheet are a row: one for each product, within the caps.
     pub asked_row : IsRow round.setup.products

@@ -15,7 +15,7 @@ ghost use Rattle.clock_closing.specs.Closing as rules;
 
 use crate::closed_round::{ClosedRound, Prepared, Results, Slip, Slips};
 use crate::fault::CloseFault;
-use clock_bids::{Own, Sheet, asked_demands, bids_of, with_changes_of};
+use clock_bids::{Own, Sheet, asked_row, bids_of, with_changes_of};
 use clock_device::NoMemory;
 use clock_order::{Tie, Ties, ordered};
 use clock_posting::{PostFault, Posting, post, post_first};
@@ -176,8 +176,7 @@ impl<'a> OpenRound<'a> {
             (bids_at self.now.before.sheets bidder)) }
         ensures row { IfOk result (IsRow self.now.setup.products) }
     {
-        let asked = asked_demands(alloc, self.setup, bids_of(self.sheet(bidder)))?;
-        Row::of(alloc, self.setup, asked.as_slice())
+        asked_row(alloc, self.setup, bids_of(self.sheet(bidder)))
     }
 
     /// Returns an empty list with room for a request for each bid in force, so that

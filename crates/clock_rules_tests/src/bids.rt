@@ -1,13 +1,13 @@
 //! Changes that sheets of small auctions ask for.
 
 ghost use Rattle.std.specs.Prelude.{◌≡◌, ◌≤◌, ◌<◌, length, All, IsTrue, IfOk};
-ghost use Rattle.clock_terms.specs.Limits.{IsRow};
+ghost use Rattle.clock_terms.specs.Limits.{IsRow, cap_of};
 
 use crate::auction::bids;
 use crate::comparing::{assert_has, assert_is_at};
-use crate::settle::{Asked, change_of};
+use crate::settle::{Asked, change_of, push_demands};
 use crate::setups::setup_in;
-use clock_bids::{Bid, Changes, Kind, Own, asked_demands, changes_of, check_sheet};
+use clock_bids::{Bid, Changes, Kind, Own, asked_row, changes_of, check_sheet};
 use clock_device::NoMemory;
 use clock_fixtures::{ONE_PRODUCT, TWO_PRODUCTS};
 use clock_money::Price;
@@ -18,7 +18,7 @@ use std::process::Abort;
 
 /// A second round in which each product's prices go from 100 to 110: the set-up document, and the
 /// first bidder's eligibility and demands.
-type Round<'a> = (&'a str, u64, &'a [u64]);
+type Round<'a> = (&'a str, u64, &'a [u16]);
 
 /// This pair of prices for each product of a set-up.
 fn equal_prices(alloc: Global, setup: &Setup, pair: &PricePair) -> Option<Prices> {
@@ -40,14 +40,14 @@ fn prices_of(alloc: Global, setup: &Setup) -> Option<Prices> {
 }
 
 /// Whether there is a demand for each product, none above its cap.
-fn is_row(products: &[Product], demands: &[u64]) -> bool
+fn is_row(products: &[Product], demands: &[u16]) -> bool
     ensures { IsTrue result → IsRow products.now demands.now }
 {
     if demands.len() != products.len() {
         return false;
     }
     for (i, product) in products.iter().enumerate() {
-        if demands[i] > product.cap {
+        if demands[i] as u64 > product.cap {
             return false;
         }
     }
@@ -71,16 +71,21 @@ fn rise(prices: &Prices) -> bool
         .all(|pair| pair.start.get() < pair.clock.get())
 }
 
-/// Whether each bid is for a product of the set-up.
-fn are_known(setup: &Setup, bids: &[Bid]) -> bool
-    ensures { IsTrue result → All (λ bid. bid.product < length setup.now.products) bids.now }
+/// Whether each bid is for a product of the set-up, and not above its cap.
+fn are_capped(setup: &Setup, bids: &[Bid]) -> bool
+    ensures known { IsTrue result → All (λ bid. bid.product < length setup.now.products) bids.now }
+    ensures capped { IsTrue result
+        → All (λ bid. bid.quantity ≤ cap_of setup.now.products bid.product) bids.now }
 {
-    let products = setup.products.as_slice().len() as u64;
-    bids.iter().all(|bid| bid.product < products)
+    let products = setup.products.as_slice();
+    bids.iter().all(|bid| {
+        bid.product < products.len() as u64
+            && bid.quantity <= products[bid.product as usize].cap
+    })
 }
 
 /// Packs these demands into a row.
-fn row_of(rt: &impl Abort, alloc: Global, setup: &Setup, demands: &[u64]) -> Result<Row, NoMemory>
+fn row_of(rt: &impl Abort, alloc: Global, setup: &Setup, demands: &[u16]) -> Result<Row, NoMemory>
     ensures { IfOk result (IsRow setup.now.products) }
 {
     assert!(rt; is_row(setup.products.as_slice(), demands));
@@ -263,18 +268,20 @@ fn a_sheet_asks_for_changes(rt: HostRuntime) {
 const CHAIN: &[Bid] = bids![(1, 1, 104), (1, 2, 110)];
 
 /// The requested demands of bids.
-fn demands_of(rt: &impl Abort, alloc: Global, bids: &[Bid]) -> Option<Amounts> {
+fn demands_of(rt: &impl Abort, alloc: Global, bids: &[Bid]) -> Result<Amounts, NoMemory> {
     let Some(setup) = setup_in(alloc, TWO_PRODUCTS) else {
-        return None;
+        return Err(NoMemory);
     };
-    assert!(rt; are_known(&setup, bids));
-    let demands = asked_demands(alloc, &setup, bids);
+    assert!(rt; are_capped(&setup, bids));
+    let row = asked_row(alloc, &setup, bids);
     drop(setup);
-    demands.ok()
+    let mut demands = Amounts::new(alloc);
+    push_demands(&mut demands, &row?)?;
+    Ok(demands)
 }
 
 #[test]
 fn the_last_quantity_is_the_demand_asked_for(rt: HostRuntime) {
     let demands = demands_of(&rt, rt.alloc(), CHAIN);
-    assert_has(&rt, "the last quantity", demands, &[0, 2]);
+    assert_has(&rt, "the last quantity", demands.ok(), &[0, 2]);
 }

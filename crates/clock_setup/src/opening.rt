@@ -111,7 +111,7 @@ fn row_within(
     if units > bidder.eligibility {
         return Err(OpeningFault::Activity(number));
     }
-    Ok(Row::of_short(alloc, setup, demands)?)
+    Ok(Row::of(alloc, setup, demands)?)
 }
 
 /// Returns the grid of an opening, or the first fault of the checks after the set-up. May return

@@ -40,17 +40,6 @@ impl Model for Row {
         (vec_capacity r.held) };
 }
 
-/// Writes demands to `short`, in two bytes each.
-fn write_short(short: &mut [u16], demands: &[u64])
-    requires width { length short.old ≡ length demands.now }
-    requires small { All (λ demand. demand ≤ most_supply) demands.now }
-    ensures { short.new ≡ demands.now }
-{
-    for (product, demand) in demands.iter().enumerate() {
-        short[product] = *demand as u16;
-    }
-}
-
 impl Row {
     /// Returns a row of `products` demands of 0. Requires at most the products of a set-up. May
     /// return `NoMemory`.
@@ -67,17 +56,7 @@ impl Row {
 
     /// Returns a row with these demands. Requires one for each product of the set-up, none above
     /// its cap. May return `NoMemory`.
-    pub fn of(alloc: Global, setup: &Setup, demands: &[u64]) -> Result<Row, NoMemory>
-        requires { IsRow setup.now.products demands.now }
-        ensures { IfOk result (λ row. row ≡ demands.now) }
-    {
-        let mut short = vec![in alloc; 0; setup.products.len()]?;
-        write_short(&mut short, demands);
-        Row::of_short(alloc, setup, short.as_slice())
-    }
-
-    /// Like [`Row::of`], for demands of two bytes each.
-    pub fn of_short(alloc: Global, setup: &Setup, demands: &[u16]) -> Result<Row, NoMemory>
+    pub fn of(alloc: Global, setup: &Setup, demands: &[u16]) -> Result<Row, NoMemory>
         requires { IsRow setup.now.products demands.now }
         ensures { IfOk result (λ row. row ≡ demands.now) }
     {
@@ -184,6 +163,22 @@ impl Row {
         let (Ok(at) | Err(at)) = place;
         *near = at;
         demand_at(held, place, product)
+    }
+
+    /// Sets the demand for a product, in blocks, and changes no other. Requires a product of the
+    /// row, and a demand of at most 1,000 blocks. Allocates nothing.
+    pub fn set(&mut self, product: usize, demand: u64)
+        requires product { product < length self.old }
+        requires small { demand ≤ most_supply }
+        ensures { self.new ≡ slice_set self.old product demand }
+    {
+        let start = self.starts[product / GROUP_SIZE] as usize;
+        let place = place_in_group(self.held.as_slice(), start, product);
+        let one = PositiveDemand {
+            product: product as u16,
+            demand: demand as u16,
+        };
+        store(&mut self.held, &mut self.starts, place, one);
     }
 
     /// Increases or reduces the demand for a product by `amount` blocks, and returns the demand

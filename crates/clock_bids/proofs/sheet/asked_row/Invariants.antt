@@ -1,6 +1,6 @@
 use Rattle.std.proofs.Common.{◌≡◌, length, take}
 use Rattle.clock_bids.specs.Sheet.{asked_demands}
-use Rattle.clock_bids.proofs.sheet.asked_demands.Given as goal
+use Rattle.clock_bids.proofs.sheet.asked_row.Given as goal
 
 -- the requested demands of the bids so far
 abbrev pub invariant-loop-bid : goal.invariant-loop-bid
