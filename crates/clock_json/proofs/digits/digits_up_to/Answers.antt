@@ -1,5 +1,5 @@
 use Rattle.std.proofs.Common.{◌+◌, ◌-◌, ◌*◌, ◌<◌, ◌^◌, [], ◌∷◌, ◌++◌, length, drop, get_or, append_assoc, length-append}
-use Rattle.std.proofs.Common.{refl, sym, ap, ◌∙◌, subst, arith}
+use Rattle.std.proofs.Common.{sym, ap, ◌∙◌, subst, arith}
 use Rattle.std.proofs.lemmas.Int.Digits.{digits_value_push}
 use Rattle.json.specs.Lex.{lex, between}
 use Rattle.clock_json.proofs.LexLaws.{at_byte, AllDigits-push, lex-digits, digit_is, first_of, alone}
