@@ -1,6 +1,5 @@
-ghost use Rattle.std.specs.Prelude.{◌≡◌, ◌≢◌, ◌++◌, ◌<◌, Ok, Err, IfOk, IfErr, List, length, map};
-ghost use Rattle.std.specs.Prelude.{OnOk};
-ghost use Rattle.clock_json.specs.Reading.{ReadsValue, ReadsAll};
+ghost use Rattle.std.specs.Prelude.{◌≡◌, ◌≢◌, ◌<◌, Ok, Err, IfOk, IfErr, OnOk, length};
+ghost use Rattle.clock_json.specs.Reading.{ReadsValue};
 ghost use Rattle.clock_bodies.specs.Bodies as bodies;
 ghost use Rattle.clock_bodies.specs.QuickBodies.{bid_fields, bid_data};
 ghost use Rattle.clock_bodies.specs.inside.QuickBodies.{bids_data, put_fields, put_data};
@@ -9,7 +8,9 @@ use crate::body::{Body, BodyFault, read_body};
 use clock_bids::Bid;
 use clock_device::{Items, NoMemory};
 use clock_json::tree::{PlainReader, each_at, has_members, number_at};
-use clock_json::{PartReader, Scan, ScanStop, ScannedMembers, is_key, push, with_room};
+use clock_json::{
+    BidPart, CompactBid, PartReader, Scan, ScanStop, ScannedMembers, is_key, push, with_room,
+};
 use serde_json::Value;
 use std::alloc::Global;
 
@@ -137,23 +138,20 @@ impl<'v> ScannedMembers<'v> for FoundBid {
     }
 }
 
-/// Reads the next bids that are written compactly, and appends them to `list`: without white space,
-/// with their keys sorted, and with a comma after each. They are read several bytes at a time. May
-/// stop with `NoMemory`.
-#[inline(never)]
-fn compact_bids(scan: &mut Scan<'_>, list: &mut Vec<Bid>) -> Result<(), ScanStop>
-    ensures { OnOk result ((bids : List Bid) × (list.new.items ≡ list.old.items ++ bids)
-        × ReadsAll 1 scan.old (map bid_data bids) scan.new) }
-{
-    'bids: while let Some(bid) = scan.compact_bid() {
-        let bid = Bid {
+/// Several bytes at a time: a bid that is written compactly.
+impl BidPart for BidReader {
+    type Part = Bid;
+
+    ghost shown = { bid_data };
+
+    #[inline(always)]
+    fn part_of(bid: CompactBid) -> Bid {
+        Bid {
             product: bid.product,
             quantity: bid.quantity,
             price: bid.price,
-        };
-        push(list, bid)?;
+        }
     }
-    Ok(())
 }
 
 /// Reads the next list of bids. Reserves memory once, for the most bids that the rest of the text
@@ -164,12 +162,12 @@ fn bids(alloc: Global, scan: &mut Scan<'_>) -> Result<Items<Bid>, ScanStop>
     ensures shorter { OnOk result (length scan.new < length scan.old) }
 {
     scan.opens(b'[')?;
-    let mut list = with_room(alloc, MOST_AHEAD.min(scan.bytes_left() / LEAST_BID))?;
-    compact_bids(scan, &mut list)?;
+    let empty = with_room(alloc, MOST_AHEAD.min(scan.bytes_left() / LEAST_BID))?;
+    let mut list = scan.compact_bids::<BidReader>(empty)?;
     'items: while !scan.closes(b']') {
         let next = BidReader::part(alloc, scan)?;
         push(&mut list, next)?;
-        compact_bids(scan, &mut list)?;
+        list = scan.compact_bids::<BidReader>(list)?;
     }
     Ok(Items::from_vec(list))
 }

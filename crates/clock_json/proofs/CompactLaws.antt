@@ -1,23 +1,24 @@
 -- Laws of bids that are written without white space.
 use Rattle.std.proofs.Common.{◌≡◌, ℕ, ◌+◌, ◌<◌, ◌≤◌, ◌^◌, true, List, ◌∷◌, ◌++◌, length, take, drop, get_or, decimal}
-use Rattle.std.proofs.Common.{codes, [], replicate, zero, suc, ◌*◌, refl, sym, ap, ap₂, ◌∙◌, arith}
-use Rattle.std.proofs.Common.{Bool, false, Option, IfSome, subst}
+use Rattle.std.proofs.Common.{codes, [], map, replicate, zero, suc, ◌*◌, refl, sym, ap, ap₂, ◌∙◌, arith}
+use Rattle.std.proofs.Common.{Bool, false, Option, IfSome, subst, ⊎_elim}
 use Rattle.std.specs.Bool.{then_some}
 use Rattle.std.proofs.Math.Nat.{pow-suc, pow-le-pow_right}
-use Rattle.std.proofs.lemmas.List.{take-append-drop, drop-drop}
+use Rattle.std.proofs.lemmas.Bool.{cases_lt}
+use Rattle.std.proofs.lemmas.List.{append_assoc, take-append-drop, drop-drop, get_or-drop, get_or-take, get_or_past}
 use Rattle.json.specs.Token.{Token, key, begin_object, end_object, begin_array, end_array, number, string}
 use Rattle.json.specs.Text.{content}
 use Rattle.json.specs.Word.{ends_word}
 use Rattle.json.specs.Lex as lexer
 use Rattle.json.specs.Lex.{Lexeme, Place, may_begin, token, comma, colon, lex, between, punctuate}
-use Rattle.serde_json.specs.Data.{no_members, put}
-use Rattle.clock_json.specs.Reading.{whole_number, numbers, ReadsValue}
+use Rattle.serde_json.specs.Data.{Data, no_members, put}
+use Rattle.clock_json.specs.Reading.{whole_number, numbers, ReadsValue, ReadsAll}
 use Rattle.clock_json.specs.inside.Reading.{HasMembers}
 use Rattle.clock_json.specs.Compact.{compact_bid}
 use Rattle.clock_json.specs.declared.compact.CompactBid.{CompactBid}
 use Rattle.clock_json.proofs.LexLaws.{at_byte, begun}
 use Rattle.clock_json.proofs.Steps.{number_reads, items_start, items_next, items_end, members_start, members_next}
-use Rattle.clock_json.proofs.Steps.{members_end}
+use Rattle.clock_json.proofs.Steps.{members_end, all_push_next}
 
 -- what is given where a test is passed
 passed : {A : Type 0} (P : A → Type 0) (is : Bool) (x : A) → (is ≡ true → P x) → IfSome (then_some is x) P
@@ -28,11 +29,19 @@ pub given : {A : Type 0} (P : A → Type 0) (is : Bool) (x : A) (result : Option
     → (is ≡ true → P x) → IfSome result P
 given P is x result same has = subst (λ r. IfSome r P) (sym same) (passed P is x has)
 
--- eight known bytes, and those after them
-eight_then : (bytes word : List ℕ) (at : ℕ) → take 8 (drop at bytes) ≡ word
-    → drop at bytes ≡ word ++ drop (at + 8) bytes
-eight_then bytes word at is =
-    sym (take-append-drop 8 (drop at bytes)) ∙ ap₂ (λ front rest. front ++ rest) is (drop-drop 8 at bytes)
+-- known bytes, and those after them
+known_then : (count : ℕ) (bytes word : List ℕ) (at : ℕ) → take count (drop at bytes) ≡ word
+    → drop at bytes ≡ word ++ drop (at + count) bytes
+known_then count bytes word at is =
+    sym (take-append-drop count (drop at bytes)) ∙ ap₂ (λ front rest. front ++ rest) is (drop-drop count at bytes)
+
+-- some of some bytes are bytes
+pub are_bytes : (count : ℕ) (bytes word : List ℕ) (at : ℕ) → word ≡ take count (drop at bytes) → length word ≡ count
+    → ((i : ℕ) → get_or bytes i 0 < 256) → (i : ℕ) → get_or word i 0 < 256
+are_bytes count bytes word at same size bound i =
+    ⊎_elim (λ (within : i < count). subst (λ b. b < 256) (sym (ap (λ (l : List ℕ). get_or l i 0) same
+    ∙ get_or-take count (drop at bytes) i 0 within ∙ get_or-drop at bytes i 0)) (bound (at + i))) (λ (past : count ≤ i).
+    subst (λ b. b < 256) (sym (get_or_past word i 0 (omega (arith, size)))) (omega arith)) (cases_lt i count)
 
 -- one known byte, and those after it
 pub one_then : (bytes : List ℕ) (at next x : ℕ) → at < length bytes → get_or bytes at 0 ≡ x → next ≡ at + 1
@@ -40,21 +49,21 @@ pub one_then : (bytes : List ℕ) (at next x : ℕ) → at < length bytes → ge
 one_then bytes at next x lt is there = at_byte bytes at x lt is ∙ ap (λ n. x ∷ drop n bytes) (sym there)
 
 module _ (bytes : List ℕ) (at : ℕ) where
-  -- a first part of eight known bytes, and the eight that begin after it
-  pub eights_then : (part : ℕ) (first second : List ℕ) → take 8 (drop at bytes) ≡ first
-      → take 8 (drop (at + part) bytes) ≡ second
-      → drop at bytes ≡ take part (first ++ drop (at + 8) bytes) ++ (second ++ drop (at + part + 8) bytes)
-  eights_then part first second is more = sym (take-append-drop part (drop at bytes))
-      ∙ ap₂ (λ front rest. front ++ rest) (ap (take part) (eight_then bytes first at is))
-      (drop-drop part at bytes ∙ eight_then bytes second (at + part) more)
+  -- a first part of eight known bytes, and four that begin after it
+  pub both_then : (part : ℕ) (first second : List ℕ) → take 8 (drop at bytes) ≡ first
+      → take 4 (drop (at + part) bytes) ≡ second
+      → drop at bytes ≡ take part (first ++ drop (at + 8) bytes) ++ (second ++ drop (at + part + 4) bytes)
+  both_then part first second is more = sym (take-append-drop part (drop at bytes))
+      ∙ ap₂ (λ front rest. front ++ rest) (ap (take part) (known_then 8 bytes first at is))
+      (drop-drop part at bytes ∙ known_then 4 bytes second (at + part) more)
 
   -- bytes that begin a bid, with the first key
-  pub price_stands : drop at bytes ≡ take 1 (codes "{\"price\"" ++ drop (at + 8) bytes)
-      ++ (codes "\"price\":" ++ drop (at + 1 + 8) bytes) → lex between (drop at bytes)
+  pub price_stands : drop at bytes ≡ take 5 (codes "{\"price\"" ++ drop (at + 8) bytes)
+      ++ (codes "ce\":" ++ drop (at + 5 + 4) bytes) → lex between (drop at bytes)
       ≡ token begin_object ∷ token (string (codes "price")) ∷ colon ∷ lex between (drop (at + 9) bytes)
   unfolding lex content
   price_stands is = ap (lex between) is ∙ ap (λ n. token begin_object ∷ token (string (codes "price")) ∷ colon
-      ∷ lex between (drop n bytes)) (let same : at + 1 + 8 ≡ at + 9 = omega arith in same)
+      ∷ lex between (drop n bytes)) (let same : at + 5 + 4 ≡ at + 9 = omega arith in same)
 
   -- bytes that begin with a known text, which is read as these lexemes whatever follows it
   known_first : (text : List ℕ) (found behind : ℕ) (read : List Lexeme → List Lexeme)
@@ -66,32 +75,26 @@ module _ (bytes : List ℕ) (at : ℕ) where
       (ap ends_word all ∙ ends (drop behind bytes), ap (lex between) all ∙ reads (drop behind bytes))
 
   -- bytes that begin with the second key
-  pub product_stands : drop at bytes ≡ take 3 (codes ",\"produc" ++ drop (at + 8) bytes)
-      ++ (codes "roduct\":" ++ drop (at + 3 + 8) bytes) → (ends_word (drop at bytes) ≡ true) × (lex between
+  pub product_stands : drop at bytes ≡ take 7 (codes ",\"produc" ++ drop (at + 8) bytes)
+      ++ (codes "ct\":" ++ drop (at + 7 + 4) bytes) → (ends_word (drop at bytes) ≡ true) × (lex between
       (drop at bytes) ≡ comma ∷ token (string (codes "product")) ∷ colon ∷ lex between (drop (at + 11) bytes))
   unfolding lex content
-  product_stands is = known_first (codes ",\"product\":") (at + 3 + 8) (at + 11)
+  product_stands is = known_first (codes ",\"product\":") (at + 7 + 4) (at + 11)
       (λ r. comma ∷ token (string (codes "product")) ∷ colon ∷ r) is (omega arith) (λ _. refl) (λ _. refl)
 
   -- bytes that begin with the third key
-  pub quantity_stands : drop at bytes ≡ take 4 (codes ",\"quanti" ++ drop (at + 8) bytes)
-      ++ (codes "antity\":" ++ drop (at + 4 + 8) bytes) → (ends_word (drop at bytes) ≡ true) × (lex between
+  pub quantity_stands : drop at bytes ≡ take 8 (codes ",\"quanti" ++ drop (at + 8) bytes)
+      ++ (codes "ty\":" ++ drop (at + 8 + 4) bytes) → (ends_word (drop at bytes) ≡ true) × (lex between
       (drop at bytes) ≡ comma ∷ token (string (codes "quantity")) ∷ colon ∷ lex between (drop (at + 12) bytes))
   unfolding lex content
-  quantity_stands is = known_first (codes ",\"quantity\":") (at + 4 + 8) (at + 12)
+  quantity_stands is = known_first (codes ",\"quantity\":") (at + 8 + 4) (at + 12)
       (λ r. comma ∷ token (string (codes "quantity")) ∷ colon ∷ r) is (omega arith) (λ _. refl) (λ _. refl)
 
-  pub end_bytes : at + 2 ≤ length bytes → get_or bytes at 0 ≡ 125 → get_or bytes (at + 1) 0 ≡ 44
-      → drop at bytes ≡ 125 ∷ 44 ∷ drop (at + 2) bytes
-  end_bytes room brace mark =
-      one_then bytes at (at + 1) 125 (omega (arith, room)) brace (omega arith)
-      ∙ ap (λ rest. 125 ∷ rest) (one_then bytes (at + 1) (at + 2) 44 (omega (arith, room)) mark (omega arith))
-
 -- bytes that begin with the end of a bid
-pub end_follows : (bytes rest : List ℕ) → bytes ≡ 125 ∷ 44 ∷ rest
-    → (ends_word bytes ≡ true) × (lex between bytes ≡ token end_object ∷ comma ∷ lex between rest)
+pub end_stands : (bytes rest : List ℕ) → bytes ≡ 125 ∷ rest
+    → (ends_word bytes ≡ true) × (lex between bytes ≡ token end_object ∷ lex between rest)
 unfolding lex
-end_follows bytes rest is = (ap ends_word is, ap (lex between) is)
+end_stands bytes rest is = (ap ends_word is, ap (lex between) is)
 
 -- one digit more of a number of at most sixteen
 pub digit_more : (value count digit : ℕ) → value < 10 ^ count → count < 19 → digit ≤ 9
@@ -103,13 +106,13 @@ digit_more value count digit small few one =
     let most : 10 ^ count ≤ 1000000000000000000 = pow-le-pow_right {n = 10} (omega arith) {i = count} {j = 18} below in
     (omega (arith, next, same, small, one), omega (arith, most, small, one))
 
--- the lexemes of a bid and its comma
+-- the lexemes of a bid
 abbrev pub lexemes_of : CompactBid → List Lexeme → List Lexeme
 lexemes_of bid rest =
     token begin_object ∷ token (string (codes "price")) ∷ colon ∷ token (number (decimal bid.price))
     ∷ comma ∷ token (string (codes "product")) ∷ colon ∷ token (number (decimal bid.product))
     ∷ comma ∷ token (string (codes "quantity")) ∷ colon ∷ token (number (decimal bid.quantity))
-    ∷ token end_object ∷ comma ∷ rest
+    ∷ token end_object ∷ rest
 
 -- the tokens of a bid
 abbrev pub tokens_of : CompactBid → List Token → List Token
@@ -118,7 +121,7 @@ tokens_of bid rest = begin_object ∷ key (codes "price") ∷ number (decimal bi
 
 -- where a value may begin, the lexemes are the tokens
 pub punctuated : (p : Place) (bid : CompactBid) (ls rest : List Lexeme) → may_begin p ≡ true → ls ≡ lexemes_of bid rest
-    → punctuate p ls ≡ tokens_of bid (punctuate lexer.after_comma rest)
+    → punctuate p ls ≡ tokens_of bid (punctuate lexer.after_value rest)
 unfolding punctuate
 punctuated p bid ls rest h is = begun p ls _ h (ap (punctuate lexer.fresh) is) (ap (punctuate lexer.after_comma) is)
 
@@ -146,6 +149,22 @@ bid_reads bid old new small is =
     members_next 0 start third_key third last found_2 (codes "quantity") (whole_number bid.quantity) has_2 refl
     (number_reads bid.quantity third last small.2 refl) in
     members_end 0 old start last new found_3 is has_3 refl
+
+-- a list that grew grows by one
+pub grown : {A : Type 0} (old row before after : List A) (x : A) → before ≡ old ++ row → after ≡ before ++ x ∷ []
+    → after ≡ old ++ (row ++ x ∷ [])
+grown old row before after x is more = more ∙ ap (λ xs. xs ++ x ∷ []) is ∙ append_assoc old row (x ∷ [])
+
+-- one bid more, where a value may begin
+pub one_bid_more : {A : Type 0} (data_of : A → Data) (old : List Token) (p : Place) (ls rest : List Lexeme)
+    (bid : CompactBid) (xs : List A) (x : A) → ReadsAll 1 old (map data_of xs) (punctuate p ls) → may_begin p ≡ true
+    → (bid.price < 2 ^ 64) × (bid.product < 2 ^ 64) × (bid.quantity < 2 ^ 64) → ls ≡ lexemes_of bid rest
+    → data_of x ≡ compact_bid bid → ReadsAll 1 old (map data_of (xs ++ x ∷ [])) (punctuate lexer.after_value rest)
+one_bid_more data_of old p ls rest bid xs x all may small is same =
+    let new = punctuate lexer.after_value rest in
+    all_push_next 1 data_of old (punctuate p ls) new xs x all
+    (subst (λ d. ReadsValue 1 (punctuate p ls) d new) (sym same)
+    (bid_reads bid _ new small (punctuated p bid ls rest may is)))
 
 -- a number and the comma after it
 pub number_and_comma : (p : Place) (ls rest : List Lexeme) (s : List ℕ) → may_begin p ≡ true

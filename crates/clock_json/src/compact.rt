@@ -5,6 +5,8 @@ ghost use Rattle.std.specs.Prelude.{decimal, IsTrue, IfSome};
 ghost use Rattle.json.specs.Token.{begin_array, begin_object, end_array, end_object, number};
 ghost use Rattle.json.specs.Token.{string};
 ghost use Rattle.json.specs.Lex.{lex, between, token, comma, colon};
+ghost use Rattle.serde_json.specs.Data.{Data};
+ghost use Rattle.clock_json.specs.Compact.{compact_bid};
 ghost use Rattle.clock_json.specs.inside.Digits.{IsNumberUpTo};
 
 use crate::digits::{digit_before, digits_up_to, number_and_comma, uneven_digits_at};
@@ -30,36 +32,44 @@ pub(crate) fn has_room(bytes: &[u8], at: usize, count: usize) -> bool
     count <= bytes.len() && at <= bytes.len() - count
 }
 
-/// Returns whether `bytes` has eight bytes at an index, and eight others a few bytes later.
+/// Returns whether `bytes` has these four bytes at index `at`.
 #[inline(always)]
-fn has_both(bytes: &[u8], at: usize, first: &[u8; 8], part: usize, second: &[u8; 8]) -> bool
-    requires first { at + 8 ≤ length bytes.now }
-    requires second { at + part + 8 ≤ length bytes.now }
-    ensures { IsTrue result → drop at bytes.now ≡ take part (first.now ++ drop (at + 8) bytes.now)
-        ++ (second.now ++ drop (at + part + 8) bytes.now) }
+fn has_four(bytes: &[u8], at: usize, word: &[u8; 4]) -> bool
+    requires { at + 4 ≤ length bytes.now }
+    ensures { IsTrue result → take 4 (drop at bytes.now) ≡ word.now }
 {
-    has_eight(bytes, at, first) && has_eight(bytes, at + part, second)
+    let Ok(there) = <[u8; 4]>::try_from(&bytes[at..at + 4]) else {
+        return false;
+    };
+    u32::from_le_bytes(there) == u32::from_le_bytes(*word)
 }
 
-/// Reads the last number of a bid at an index, and the brace and the comma after it. Returns the
-/// number, and the index after the comma. Most are a single digit.
+/// Returns whether `bytes` has eight bytes at an index, and four others a few bytes later.
+#[inline(always)]
+fn has_both(bytes: &[u8], at: usize, first: &[u8; 8], part: usize, second: &[u8; 4]) -> bool
+    requires first { at + 8 ≤ length bytes.now }
+    requires second { at + part + 4 ≤ length bytes.now }
+    ensures { IsTrue result → drop at bytes.now ≡ take part (first.now ++ drop (at + 8) bytes.now)
+        ++ (second.now ++ drop (at + part + 4) bytes.now) }
+{
+    has_eight(bytes, at, first) && has_four(bytes, at + part, second)
+}
+
+/// Reads the last number of a bid at an index, and the brace after it. Returns the number, and the
+/// index after the brace. Most are a single digit.
 #[inline(always)]
 fn last_number(bytes: &[u8], start: usize) -> Option<(u64, usize)>
-    requires { start + 18 ≤ length bytes.now }
+    requires { start + 6 ≤ length bytes.now }
     ensures small { IfSome result (λ r. r.0 < 2 ^ 64) }
+    ensures order { IfSome result (λ r. (start < r.1) × (r.1 < length bytes.now)) }
     ensures value { IfSome result (λ r. lex between (drop start bytes.now)
-        ≡ token (number (decimal r.0)) ∷ token end_object ∷ comma
-        ∷ lex between (drop r.1 bytes.now)) }
+        ≡ token (number (decimal r.0)) ∷ token end_object ∷ lex between (drop r.1 bytes.now)) }
 {
     if let Some(digit) = digit_before(bytes, start, b'}') {
-        if bytes[start + 2] != b',' {
-            return None;
-        }
-        return Some((digit, start + 3));
+        return Some((digit, start + 2));
     }
-    let (number, end) = digits_up_to(bytes, start, start + 16)?;
-    let ends = (bytes[end] == b'}') & (bytes[end + 1] == b',');
-    ends.then_some((number, end + 2))
+    let (number, end) = digits_up_to(bytes, start, start + 4)?;
+    (bytes[end] == b'}').then_some((number, end + 1))
 }
 
 /// The numbers of a bid.
@@ -73,32 +83,50 @@ pub struct CompactBid {
     pub quantity: u64,
 }
 
-/// The most bytes of such a bid and its comma: three numbers of sixteen digits, and the rest.
-const MOST_BYTES: usize = 82;
+/// Makes parts of a list of the bids that are read.
+pub trait BidPart {
+    /// The type of a part.
+    type Part: Drop;
 
-/// Reads a bid and a comma at an index. Returns the bid, and the index after the comma.
+    /// The JSON value of a part.
+    ghost shown: { Self.Part → Data };
+
+    /// Makes the part that a bid is.
+    fn part_of(bid: CompactBid) -> Self::Part
+        ensures { shown result ≡ compact_bid bid };
+}
+
+/// The most bytes of such a bid with a price of eight digits, and one more.
+const MOST_BYTES: usize = 50;
+
+/// The most bytes of such a bid after its price, and one more: two numbers of four digits, and the
+/// rest.
+const MOST_BEHIND: usize = 33;
+
+/// Reads a bid at an index. Returns the bid, and the index after it, where there is another byte.
 #[inline(always)]
 pub(crate) fn compact_bid_at(bytes: &[u8], start: usize) -> Option<(CompactBid, usize)>
     ensures small { IfSome result (λ r. (r.0.price < 2 ^ 64) × (r.0.product < 2 ^ 64)
         × (r.0.quantity < 2 ^ 64)) }
+    ensures order { IfSome result (λ r. (start < r.1) × (r.1 < length bytes.now)) }
     ensures value { IfSome result (λ r. lex between (drop start bytes.now) ≡ token begin_object
         ∷ token (string (codes "price")) ∷ colon ∷ token (number (decimal r.0.price)) ∷ comma
         ∷ token (string (codes "product")) ∷ colon ∷ token (number (decimal r.0.product)) ∷ comma
         ∷ token (string (codes "quantity")) ∷ colon ∷ token (number (decimal r.0.quantity))
-        ∷ token end_object ∷ comma ∷ lex between (drop r.1 bytes.now)) }
+        ∷ token end_object ∷ lex between (drop r.1 bytes.now)) }
 {
     if !has_room(bytes, start, MOST_BYTES) {
         return None;
     }
-    if !has_both(bytes, start, b"{\"price\"", 1, b"\"price\":") {
+    if !has_both(bytes, start, b"{\"price\"", 5, b"ce\":") {
         return None;
     }
-    let (price, behind_price) = uneven_digits_at(bytes, start + 9)?;
-    if !has_both(bytes, behind_price, b",\"produc", 3, b"roduct\":") {
+    let (price, behind_price) = uneven_digits_at(bytes, start + 9, MOST_BEHIND)?;
+    if !has_both(bytes, behind_price, b",\"produc", 7, b"ct\":") {
         return None;
     }
-    let (product, behind_product) = digits_up_to(bytes, behind_price + 11, behind_price + 27)?;
-    if !has_both(bytes, behind_product, b",\"quanti", 4, b"antity\":") {
+    let (product, behind_product) = digits_up_to(bytes, behind_price + 11, behind_price + 15)?;
+    if !has_both(bytes, behind_product, b",\"quanti", 8, b"ty\":") {
         return None;
     }
     let (quantity, end) = last_number(bytes, behind_product + 12)?;

@@ -52,6 +52,19 @@ fn value_of(bytes: &[u8], at: usize, count: usize) -> u64
     value as u64
 }
 
+/// Returns the digit at an index, if there is one.
+#[inline(always)]
+fn digit_at(bytes: &[u8], at: usize) -> Option<u64>
+    requires { at < length bytes.now }
+    ensures { IfSome result (λ digit. (digit ≤ 9) × (get_or bytes.now at 0 ≡ digit + 48)) }
+{
+    let digit = (bytes[at] as u64).wrapping_sub(48);
+    if digit > 9 {
+        return None;
+    }
+    Some(digit)
+}
+
 /// Reads a number of at most nineteen digits, without leading zeros, that ends before an index.
 /// Returns the number, and the index after it.
 #[inline(always)]
@@ -64,11 +77,10 @@ pub(crate) fn digits_up_to(bytes: &[u8], start: usize, stop: usize) -> Option<(u
     let mut end = start;
     let mut value = 0u64;
     'digits: while end < stop {
-        let byte = bytes[end];
-        if byte < b'0' || byte > b'9' {
+        let Some(digit) = digit_at(bytes, end) else {
             break;
-        }
-        value = value * 10 + byte as u64 - 48;
+        };
+        value = value * 10 + digit;
         end += 1;
     }
     if end == start || (bytes[start] == b'0') & (end - start != 1) {
@@ -84,25 +96,38 @@ pub(crate) fn digit_before(bytes: &[u8], at: usize, mark: u8) -> Option<u64>
     ensures number { IfSome result (λ n. IsNumberUpTo bytes.now at (at + 1) (n, at + 1)) }
     ensures mark { IfSome result (λ _. get_or bytes.now (at + 1) 0 ≡ mark) }
 {
-    let byte = bytes[at];
-    if byte < b'0' || byte > b'9' || bytes[at + 1] != mark {
+    let digit = digit_at(bytes, at)?;
+    if bytes[at + 1] != mark {
         return None;
     }
-    Some(byte as u64 - 48)
+    Some(digit)
 }
 
-/// Reads a number of at most sixteen digits. It is fast if the count of digits varies.
-#[inline(always)]
-pub(crate) fn uneven_digits_at(bytes: &[u8], start: usize) -> Option<(u64, usize)>
+/// Reads a number of at most sixteen digits that `behind` bytes follow.
+#[inline(never)]
+fn long_digits_at(bytes: &[u8], start: usize, behind: usize) -> Option<(u64, usize)>
     requires { start + 16 ≤ length bytes.now }
-    ensures { IfSome result (IsNumberUpTo bytes.now start (start + 16)) }
+    ensures number { IfSome result (IsNumberUpTo bytes.now start (start + 16)) }
+    ensures room { IfSome result (λ r. r.1 + behind ≤ length bytes.now) }
+{
+    if !has_room(bytes, start + 16, behind) {
+        return None;
+    }
+    digits_up_to(bytes, start, start + 16)
+}
+
+/// Reads a number of at most sixteen digits that `behind` bytes follow. It is fast if the count of
+/// digits varies, and is at most eight.
+#[inline(always)]
+pub(crate) fn uneven_digits_at(bytes: &[u8], start: usize, behind: usize) -> Option<(u64, usize)>
+    requires most { start + 16 ≤ length bytes.now }
+    requires behind { start + 8 + behind ≤ length bytes.now }
+    ensures number { IfSome result (IsNumberUpTo bytes.now start (start + 16)) }
+    ensures room { IfSome result (λ r. r.1 + behind ≤ length bytes.now) }
 {
     let count = digits_ahead(bytes, start);
-    if count > 8 {
-        return digits_up_to(bytes, start, start + 16);
-    }
-    if count == 0 || (bytes[start] == b'0') & (count != 1) {
-        return None;
+    if count == 0 || count > 8 || bytes[start] == b'0' {
+        return long_digits_at(bytes, start, behind);
     }
     Some((value_of(bytes, start, count), start + count))
 }

@@ -14,7 +14,7 @@ mod scan;
 pub mod tree;
 mod words;
 
-pub use compact::{CompactBid, CompactTriple};
+pub use compact::{BidPart, CompactBid, CompactTriple};
 pub use parts::{PartReader, ScannedMembers, scanned_parts, scanned_text};
 pub use room::{push, with_room};
 pub use rows::{ShortRows, short_rows};

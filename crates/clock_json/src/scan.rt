@@ -5,12 +5,12 @@ ghost use Rattle.std.specs.Bool.{MatchBool};
 ghost use Rattle.json.specs.Token.{Token, key as key_token, tokens_code};
 ghost use Rattle.json.specs.Lex.{may_begin, may_close, tokens};
 ghost use Rattle.serde_json.specs.Data.{null, string};
-ghost use Rattle.clock_json.specs.{Compact.{compact_bid}, Left.{left, place_of}};
+ghost use Rattle.clock_json.specs.Left.{left, place_of};
 ghost use Rattle.clock_json.specs.Marks.{opening_mark, closing_mark};
 ghost use Rattle.clock_json.specs.Reading.{whole_number, numbers, rows, ReadsValue, ReadsAll};
 ghost use Rattle.clock_json.specs.declared.scan.ScanStop.TheVariants as stops;
 
-use crate::compact::{CompactBid, CompactTriple, compact_bid_at, compact_triple_at, has_room};
+use crate::compact::{BidPart, CompactTriple, compact_bid_at, compact_triple_at, has_room};
 use crate::digits::number_and_comma;
 use crate::room::push;
 use crate::rows::{ShortRows, short_row};
@@ -168,19 +168,30 @@ impl<'a> Scan<'a> {
         Ok(n)
     }
 
-    /// Reads a bid without white space, its keys in order of their bytes, if a comma follows it.
-    #[inline(always)]
-    pub fn compact_bid(&mut self) -> Option<CompactBid>
-        ensures value { IfSome result (λ bid. ReadsValue 1 self.old (compact_bid bid) self.new) }
-        ensures shorter { IfSome result (λ _. length self.new < length self.old) }
-        ensures same { IfNone result (self.new ≡ self.old) }
+    /// Reads the next bids that are written without white space, with their keys in order of their
+    /// bytes. Appends the part that `R` makes of each to `list`. May stop with `NoMemory`.
+    #[inline(never)]
+    pub fn compact_bids<R: BidPart>(&mut self, list: Vec<R::Part>) -> Result<Vec<R::Part>, ScanStop>
+        ensures { IfOk result (λ all. (row : List R.Part) × (all.items ≡ list.items ++ row)
+            × ReadsAll 1 self.old (map R.shown row) self.new) }
     {
-        if !self.expected.may_begin() {
-            return None;
+        let mut all = list;
+        let bytes = self.bytes;
+        let mut at = self.at;
+        let mut expected = self.expected;
+        if !expected.may_begin() {
+            return Ok(all);
         }
-        let (bid, at) = compact_bid_at(self.bytes, self.at)?;
-        (self.expected, self.at) = (Expected::AfterComma, at);
-        Some(bid)
+        'bids: while let Some((bid, end)) = compact_bid_at(bytes, at) {
+            push(&mut all, R::part_of(bid))?;
+            if bytes[end] != b',' {
+                (self.expected, self.at) = after_value(bytes, end);
+                return Ok(all);
+            }
+            (expected, at) = (Expected::AfterComma, end + 1);
+        }
+        (self.expected, self.at) = (expected, at);
+        Ok(all)
     }
 
     /// Reads a list of three numbers without white space, if a comma follows it.

@@ -11,7 +11,7 @@ returns-clause-value c =
     let product = product_stands bytes c.in_ok-price.behind_price (c.has_both-2.ensures c.if-not-has_both-2.false) in
     let quantity =
     quantity_stands bytes c.in_ok-product.behind_product (c.has_both-3.ensures c.if-not-has_both-3.false) in
-    let first_number = c.in_ok-price.ensures.value product.0 in
+    let first_number = c.in_ok-price.ensures.number.value product.0 in
     let second_number = c.in_ok-product.ensures.value quantity.0 in
     price
     ∙ ap (λ r. token begin_object ∷ token (string (codes "price")) ∷ colon ∷ r) (first_number
@@ -22,4 +22,4 @@ returns-clause-value c =
 
 pub returns-clause-small : goal.returns-clause-small
 returns-clause-small c =
-    (c.in_ok-price.ensures.small, c.in_ok-product.ensures.small, c.in_ok-quantity.ensures.small)
+    (c.in_ok-price.ensures.number.small, c.in_ok-product.ensures.small, c.in_ok-quantity.ensures.small)

@@ -1,5 +1,5 @@
 use Rattle.std.proofs.Common.{◌+◌, ◌-◌, ◌*◌, ◌<◌, ◌^◌, [], ◌∷◌, ◌++◌, length, drop, get_or, append_assoc, length-append}
-use Rattle.std.proofs.Common.{refl, sym, ap, ◌∙◌, subst, arith}
+use Rattle.std.proofs.Common.{sym, ap, ◌∙◌, subst, arith}
 use Rattle.std.proofs.lemmas.Int.Digits.{digits_value_push}
 use Rattle.json.specs.Lex.{lex, between}
 use Rattle.clock_json.proofs.LexLaws.{at_byte, AllDigits-push, lex-digits, digit_is, first_of, alone}
@@ -18,26 +18,28 @@ overflow_add-value c =
     let l = c.digits in
     let more = digit_more l.value (length l.invariant.0) 0 l.invariant.5
     (omega (arith, l.invariant.4, c.digits-test.true, c.requires.few)) (omega arith) in
-    record { fits = omega (arith, more.1, c.if-byte-gt57.false) }
+    record { fits = omega (arith, more.1, c.in-Some.ensures.0) }
 
 pub digits-preserved : goal.digits-preserved
 digits-preserved c =
     let l = c.digits in
     let ds = l.invariant.0 in
     let bytes = c.args.bytes.now in
-    let d = get_or bytes l.end 0 in
-    let v = digit_is d c.if-byte-lt48.false c.if-byte-gt57.false in
-    let more = digit_more l.value (length ds) (d - 48) l.invariant.5
-    (omega (arith, l.invariant.4, c.digits-test.true, c.requires.few)) (omega (arith, c.if-byte-gt57.false)) in
+    let digit = c.in-Some.digit in
+    let d = digit + 48 in
+    let one = c.in-Some.ensures.0 in
+    let v = digit_is d (omega arith) (omega (arith, one)) in
+    let more = digit_more l.value (length ds) digit l.invariant.5
+    (omega (arith, l.invariant.4, c.digits-test.true, c.requires.few)) one in
     let size = length-append ds (d ∷ []) in (
       ds ++ d ∷ [],
       l.invariant.1 ∙ ap (λ r. ds ++ r) (at_byte bytes l.end d (omega (arith, c.requires.within, c.digits-test.true))
-          refl) ∙ sym (append_assoc ds (d ∷ []) (drop (l.end + 1) bytes)),
-      AllDigits-push ds d l.invariant.2 (omega (arith, v, c.if-byte-gt57.false)),
-      digits_value_push 10 ds d ∙ omega (arith, v, l.invariant.3, c.if-byte-lt48.false),
+          c.in-Some.ensures.1) ∙ sym (append_assoc ds (d ∷ []) (drop (l.end + 1) bytes)),
+      AllDigits-push ds d l.invariant.2 (omega (arith, v, one)),
+      digits_value_push 10 ds d ∙ omega (arith, v, l.invariant.3),
       omega (arith, size, l.invariant.4),
-      subst (λ n. l.value * 10 + d - 48 < 10 ^ n) (sym size) (omega (arith, more.0, c.if-byte-lt48.false)),
-      omega (arith, more.1, c.if-byte-lt48.false),
+      subst (λ n. l.value * 10 + digit < 10 ^ n) (sym size) more.0,
+      omega (arith, more.1),
       omega (arith, c.digits-test.true),
     )
 
