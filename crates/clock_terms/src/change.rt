@@ -14,8 +14,8 @@ pub enum Kind {
 }
 
 impl Kind {
-    /// Returns `demand` after `amount` blocks of such a change. Requires a result of 64 bits; a
-    /// reduction by more than the demand gives 0.
+    /// Returns a demand, or an aggregate demand, after `amount` blocks of such a change. Requires a
+    /// result that fits into 64 bits; a reduction by more than the demand gives 0.
     pub(crate) fn after(self, demand: u64, amount: u64) -> u64
         requires { changed_demand self demand amount < 2 ^ 64 }
         ensures { result ≡ changed_demand self demand amount }

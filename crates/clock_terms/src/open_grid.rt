@@ -14,8 +14,8 @@ use clock_device::{Items, NoMemory};
 use std::alloc::Global;
 use std::marker::Model;
 
-/// The fewest demands that an open grid stores in cells.
-const MANY: usize = 1 << 20;
+/// The fewest changes for which an open grid has cells.
+const MANY_CHANGES: usize = 1 << 18;
 
 /// The demands of an auction during bid processing: those of a [`Grid`], for many changes.
 ///
@@ -37,9 +37,9 @@ impl Model for OpenGrid {
 
 /// The rows of an open grid. In contracts, it is their list.
 ///
-/// A change in a [`Row`] can move all of its later entries. So if there are many demands, all
-/// demands of each bidder are in a list of cells, of two bytes each. The rows then have their
-/// demands from before, and get those of the cells at the end.
+/// A change in a [`Row`] can move all of its later entries. So if many changes are expected, all
+/// demands of each bidder are in a list of cells, of two bytes each. The rows then have the demands
+/// before the changes, and get those of the cells at the end.
 #[derive(Drop)]
 struct OpenRows {
     rows: Vec<Row>,
@@ -54,11 +54,11 @@ impl Model for OpenRows {
     ghost invariant = { λ a. AreCells a.rows.items a.cells.items };
 }
 
-/// Returns a list of cells for each row of a grid, or none if the grid has few demands.
-fn cells_of(alloc: Global, grid: &Grid) -> Result<Vec<Items<u16>>, NoMemory>
+/// Returns a list of cells for each row of a grid, or none if few changes are expected.
+fn cells_of(alloc: Global, grid: &Grid, changes: usize) -> Result<Vec<Items<u16>>, NoMemory>
     ensures { IfOk result (λ cells. AreFirstCells grid.now cells.items) }
 {
-    if grid.rows.len() * grid.totals.len() < MANY {
+    if changes < MANY_CHANGES {
         return Ok(Vec::new(alloc));
     }
     let mut cells = Vec::with_capacity(alloc, grid.rows.len())?;
@@ -112,10 +112,13 @@ impl OpenRows {
 
 impl OpenGrid {
     /// Makes an open grid of a grid, which it moves. May return `NoMemory`.
-    pub fn of(alloc: Global, grid: Grid) -> Result<OpenGrid, NoMemory>
+    ///
+    /// `changes` is how many changes are expected, and decides only how much memory is allocated
+    /// and how long a change takes.
+    pub fn of(alloc: Global, grid: Grid, changes: usize) -> Result<OpenGrid, NoMemory>
         ensures { IfOk result (λ made. made ≡ grid) }
     {
-        let cells = cells_of(alloc, &grid)?;
+        let cells = cells_of(alloc, &grid, changes)?;
         let Grid { rows, totals } = grid;
         let rows = OpenRows { rows, cells };
         Ok(OpenGrid { rows, totals })

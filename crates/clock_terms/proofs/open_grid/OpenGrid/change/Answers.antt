@@ -1,7 +1,7 @@
 -- The total changes by the amount by which the demand changes. It fits, and the grid's invariant remains.
-use Rattle.std.proofs.Common.{ℕ, ◌≡◌, ◌<◌, ◌≤◌, ◌∙◌, length, All, ap, sym, arith}
+use Rattle.std.proofs.Common.{ℕ, ◌≡◌, ◌<◌, ◌≤◌, length, All, ap, arith}
 use Rattle.clock_terms.specs.declared.change.Kind.TheVariants.{Reduction}
-use Rattle.clock_terms.specs.Demands.{row_of, total_of, demand_at, changed_demand}
+use Rattle.clock_terms.specs.Demands.{total_of, demand_at, changed_demand}
 use Rattle.clock_terms.specs.Limits.{most_supply}
 use Rattle.clock_terms.proofs.DemandLaws.{in_totals, kept_with_demand}
 use Rattle.clock_terms.proofs.OpenLaws.{changed_total, small_total}

@@ -1,5 +1,5 @@
 -- At the end all rows have the demands of their cells, if there are cells.
-use Rattle.std.proofs.Common.{◌≡◌, ◌∙◌, ℕ, length, arith}
+use Rattle.std.proofs.Common.{◌≡◌, ◌∙◌, length, arith}
 use Rattle.clock_terms.proofs.OpenLaws.{shown_written}
 use Rattle.clock_terms.proofs.open_grid.OpenRows.into_rows.Goals as goal
 
