@@ -232,7 +232,8 @@ impl<'a> OpenRound<'a> {
         ensures each { IfOk result (λ settled. length settled.left ≡ length requests.now) }
     {
         let grid = self.grid(alloc, old)?;
-        let board = Board::on(alloc, self.setup, self.eligibilities, grid)?;
+        let count = requests.len();
+        let board = Board::for_requests(alloc, self.setup, self.eligibilities, grid, count)?;
         processor.settle(alloc, board, requests)
     }
 

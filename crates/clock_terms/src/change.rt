@@ -1,5 +1,5 @@
-ghost use Rattle.std.specs.Prelude.{◌≡◌, ◌≤◌};
-ghost use Rattle.clock_terms.specs.{Demands.{changed_demand}, Limits.{most_supply}};
+ghost use Rattle.std.specs.Prelude.{◌≡◌, ◌<◌, ◌^◌};
+ghost use Rattle.clock_terms.specs.Demands.{changed_demand};
 
 use clock_device::Items;
 use clock_money::Point;
@@ -14,10 +14,10 @@ pub enum Kind {
 }
 
 impl Kind {
-    /// Returns `demand` after `amount` blocks of such a change. Requires a result of at most 1,000
-    /// blocks; a reduction by more than the demand gives 0.
+    /// Returns a demand, or an aggregate demand, after `amount` blocks of such a change. Requires a
+    /// result that fits into 64 bits; a reduction by more than the demand gives 0.
     pub(crate) fn after(self, demand: u64, amount: u64) -> u64
-        requires { changed_demand self demand amount ≤ most_supply }
+        requires { changed_demand self demand amount < 2 ^ 64 }
         ensures { result ≡ changed_demand self demand amount }
     {
         match self {

@@ -22,8 +22,8 @@ pub type Amounts = Items<u64>;
 /// product.
 #[derive(Drop)]
 pub struct Grid {
-    rows: Vec<Row>,
-    totals: Amounts,
+    pub(crate) rows: Vec<Row>,
+    pub(crate) totals: Amounts,
 }
 
 impl Model for Grid {

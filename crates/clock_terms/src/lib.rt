@@ -8,6 +8,7 @@ mod grid;
 mod held_list;
 mod increments;
 mod limits;
+mod open_grid;
 mod prices;
 mod row;
 mod setup;
@@ -21,6 +22,7 @@ pub use limits::{
     LONGEST_TOKEN, MOST_BIDDERS, MOST_ELIGIBILITY, MOST_LIMIT, MOST_PRODUCTS, MOST_REQUIREMENT,
     MOST_SUPPLY, MOST_UNITS, SHORTEST_TOKEN, is_within,
 };
+pub use open_grid::OpenGrid;
 pub use prices::{OpeningPrices, PricePair, Prices};
 pub use row::{PackedRow, PositiveDemands, ProductDemand, Row};
 pub use setup::{Bidder, Bidders, Product, Products, Setup};

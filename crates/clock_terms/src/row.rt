@@ -14,7 +14,7 @@ use crate::held_list::{
 };
 use crate::limits::MOST_PRODUCTS;
 use crate::setup::Setup;
-use clock_device::NoMemory;
+use clock_device::{Items, NoMemory};
 use std::alloc::Global;
 use std::marker::Model;
 
@@ -200,6 +200,33 @@ impl Row {
         };
         store(&mut self.held, &mut self.starts, place, one);
         before
+    }
+
+    /// Returns all demands, in two bytes each. May return `NoMemory`.
+    pub(crate) fn cells(&self, alloc: Global) -> Result<Items<u16>, NoMemory>
+        ensures { IfOk result (λ cells. cells ≡ self.now) }
+    {
+        let mut cells = Items::from_vec(vec![in alloc; 0u16; self.count]?);
+        let mut held = self.held();
+        'held: while let Some(one) = held.next() {
+            cells.set(one.product, one.demand as u16);
+        }
+        Ok(cells)
+    }
+
+    /// Replaces all demands. Requires one for each product of the row, none above 1,000 blocks.
+    /// Allocates nothing.
+    pub(crate) fn overwrite(&mut self, demands: &[u16])
+        requires width { length demands.now ≡ length self.old }
+        requires small { All (λ demand. demand ≤ most_supply) demands.now }
+        ensures { self.new ≡ demands.now }
+    {
+        self.held
+            .resize(self.count, PositiveDemand::default())
+            .unwrap();
+        let packed = write_held(&mut self.held, demands);
+        self.held.truncate(packed);
+        find_starts(&mut self.starts, self.held.as_slice());
     }
 
     /// Returns a packed copy of the demands, for a closed round. May return `NoMemory`.

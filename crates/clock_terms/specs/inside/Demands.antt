@@ -1,9 +1,12 @@
--- The invariant of the type `Grid`.
+-- The invariants of the types `Grid` and `OpenGrid`.
 --     IsSmallGrid products grid      rows of equal length, within the limits of a set-up
 --     IsGridWithTotals grid totals      such a grid, with the aggregate demand for each product
-use Rattle.std.specs.Prelude.{◌≡◌, ℕ, ◌≤◌, ◌<◌, List, length, slice_index, All}
+--     rows_shown rows cells      the rows of an open grid: the lists of cells, if there are any
+--     AreCells rows cells      a list of cells for each row, of its length, or none
+--     AreFirstCells rows cells      those of an open grid in which nothing has changed
+use Rattle.std.specs.Prelude.{◌≡◌, ℕ, ◌≤◌, ◌<◌, ◌⊎◌, List, [], ◌∷◌, length, slice_index, All}
 use Rattle.clock_terms.specs.Limits.{most_products, most_bidders, most_supply}
-use Rattle.clock_terms.specs.Demands.{total_of}
+use Rattle.clock_terms.specs.Demands.{row_of, total_of}
 
 -- no more rows and columns than a set-up allows, and no demand above a thousand
 pub record IsSmallGrid (products : ℕ) (grid : List (List ℕ)) : Type 0 where
@@ -18,3 +21,18 @@ pub record IsGridWithTotals (grid : List (List ℕ)) (totals : List ℕ) : Type 
   pub has_bidder : 1 ≤ length grid
   pub kept : (product : ℕ) → product < length totals
       → slice_index totals product ≡ total_of grid product
+
+-- the rows of an open grid: the lists of cells, if there are any
+abbrev pub rows_shown : List (List ℕ) → List (List ℕ) → List (List ℕ)
+rows_shown rows [] = rows
+rows_shown rows (first ∷ cells) = first ∷ cells
+
+-- a list of cells for each row, of the row's length, or none
+pub record AreCells (rows cells : List (List ℕ)) : Type 0 where
+  pub each : 0 < length cells → length cells ≡ length rows
+  pub widths : (bidder : ℕ) → bidder < length cells
+      → length (row_of cells bidder) ≡ length (row_of rows bidder)
+
+-- no lists of cells, or the demands of the rows
+abbrev pub AreFirstCells : List (List ℕ) → List (List ℕ) → Type 0
+AreFirstCells rows cells = (cells ≡ []) ⊎ (cells ≡ rows)
