@@ -199,8 +199,8 @@ module _ (products : List Product) (prices : List PricePair) (demands : List ℕ
   pub good_bids_capped : first_fault (checks_of_bids products prices demands bids) ≡ None
       → All (λ bid. bid.quantity ≤ cap_of products bid.product) bids
   good_bids_capped none place d within =
-      let passed = each_passes (λ i bid. bid_checks products prices demands (take i bids) i bid) 0 bids none place place d
-      (omega arith) within in
+      let passed = each_passes (λ i bid. bid_checks products prices demands (take i bids) i bid) 0 bids none
+      place place d (omega arith) within in
       let good = so_far_good products prices demands (take place bids) place (get_or bids place d) passed in
       good.in_range.capped
 

@@ -174,11 +174,11 @@ impl Row {
     {
         let start = self.starts[product / GROUP_SIZE] as usize;
         let place = place_in_group(self.held.as_slice(), start, product);
-        let one = PositiveDemand {
+        let entry = PositiveDemand {
             product: product as u16,
             demand: demand as u16,
         };
-        store(&mut self.held, &mut self.starts, place, one);
+        store(&mut self.held, &mut self.starts, place, entry);
     }
 
     /// Increases or reduces the demand for a product by `amount` blocks, and returns the demand

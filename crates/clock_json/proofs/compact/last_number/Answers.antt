@@ -29,6 +29,7 @@ returns-clause-value c =
     let bytes = c.args.bytes.now in
     let end = c.in_ok-number.end in
     given _ _ _ _ c.then_some.ensures (λ is.
-    let last = end_stands _ _ (one_then bytes end (end + 1) 125 (omega (arith, c.requires, c.in_ok-number.ensures.few.1))
+    let last = end_stands _ _
+    (one_then bytes end (end + 1) 125 (omega (arith, c.requires, c.in_ok-number.ensures.few.1))
     (eqb-true _ 125 is) (omega arith)) in
     c.in_ok-number.ensures.value last.0 ∙ ap (λ ls. token (number (decimal c.in_ok-number.number)) ∷ ls) last.1)

@@ -12,8 +12,9 @@ returns-clause-starts c =
     let same = c.as_mut_slice-starts.ensures.value in
     let same_at : (group : ℕ) → slice_index c.as_mut_slice-starts.result.now group
         ≡ slice_index c.args.starts.now.items group = λ group. ap (λ (list : List ℕ). slice_index list group) same in
-    subst (AreStarts c.insert.new.self.items) (sym (rewritten c.args.starts.now.len c.loop-group.starts c.args.starts.now.items
-    (sym (loop.kept ∙ c.as_mut_slice-starts.ensures.len))))
+    let count = sym (loop.kept ∙ c.as_mut_slice-starts.ensures.len) in
+    subst (AreStarts c.insert.new.self.items) (sym (rewritten c.args.starts.now.len c.loop-group.starts
+    c.args.starts.now.items count))
     (starts_put c.args.held.now.items c.insert.new.self.items c.args.one c.args.place c.args.starts.now.items
     c.loop-group.starts put c.requires.place c.requires.starts (loop.kept ∙ ap length same)
     (λ group own. loop.below group own ∙ same_at group) (λ group behind within.

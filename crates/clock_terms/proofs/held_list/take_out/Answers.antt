@@ -9,9 +9,11 @@ pub overflow_sub-starts : goal.overflow_sub-starts
 overflow_sub-starts c =
     let same = c.as_mut_slice-starts.ensures.value in
     let group = c.loop-group.group in
+    let within = c.loop-group-test.true in
     let some = some_before c.args.held.now.items c.args.place c.args.product c.args.starts.now.items group
-    c.requires.place c.requires.starts (omega (arith, c.loop-group-test.true, ap length same)) c.loop-group.auto.group in
-    omega (arith, some, c.loop-group.invariant.ahead group (omega arith), ap (λ (list : List ℕ). slice_index list group) same)
+    c.requires.place c.requires.starts (omega (arith, within, ap length same)) c.loop-group.auto.group in
+    let same_here = ap (λ (list : List ℕ). slice_index list group) same in
+    omega (arith, some, c.loop-group.invariant.ahead group (omega arith), same_here)
 
 pub returns-clause-starts : goal.returns-clause-starts
 returns-clause-starts c =
@@ -19,8 +21,9 @@ returns-clause-starts c =
     let same = c.as_mut_slice-starts.ensures.value in
     let same_at : (group : ℕ) → slice_index c.as_mut_slice-starts.result.now group
         ≡ slice_index c.args.starts.now.items group = λ group. ap (λ (list : List ℕ). slice_index list group) same in
-    subst (AreStarts c.remove.new.self.items) (sym (rewritten c.args.starts.now.len c.loop-group.starts c.args.starts.now.items
-    (sym (loop.kept ∙ c.as_mut_slice-starts.ensures.len))))
+    let count = sym (loop.kept ∙ c.as_mut_slice-starts.ensures.len) in
+    subst (AreStarts c.remove.new.self.items) (sym (rewritten c.args.starts.now.len c.loop-group.starts
+    c.args.starts.now.items count))
     (starts_taken c.args.held.now.items c.remove.new.self.items c.requires.order.0 c.args.place c.args.product
     c.args.starts.now.items c.loop-group.starts c.remove.ensures.items c.requires.order.1 c.requires.place
     c.requires.starts (loop.kept ∙ ap length same) (λ group own. loop.below group own ∙ same_at group)

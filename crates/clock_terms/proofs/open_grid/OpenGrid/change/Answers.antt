@@ -13,11 +13,9 @@ after-requires c =
     let total : c.total-total.result ≡ total_of rows c.args.product = rw c.self.view_is c.total-total.ensures in
     let small : changed_demand c.args.kind (demand_at rows c.args.bidder c.args.product) c.args.amount ≤ most_supply =
     rw c.self.view_is c.requires.small in
-    omega (
-      arith,
-      ap (λ (n : ℕ). changed_demand c.args.kind n c.args.amount) total,
-      small_total c.args.kind rows c.self.inside.totals c.args.bidder c.args.product c.args.amount c.self.invariant small,
-    )
+    let most = small_total c.args.kind rows c.self.inside.totals c.args.bidder c.args.product c.args.amount
+    c.self.invariant small in
+    omega (arith, most, ap (λ (n : ℕ). changed_demand c.args.kind n c.args.amount) total)
 
 pub invariant_of-self : goal.invariant_of-self
 invariant_of-self c =

@@ -1,5 +1,6 @@
 -- One step of the loop writes the next positive demand. The demands of 0 before it have cells of 0.
-use Rattle.std.proofs.Common.{◌≡◌, ◌+◌, ◌∙◌, ◌<◌, ◌≤◌, ℕ, List, length, replicate, ap, subst, get_or, ⊎_elim, arith, rules}
+use Rattle.std.proofs.Common.{◌≡◌, ◌+◌, ◌∙◌, ◌<◌, ◌≤◌, ℕ, List, length, replicate, ap, subst, get_or}
+use Rattle.std.proofs.Common.{⊎_elim, arith, rules}
 use Rattle.std.proofs.lemmas.Bool.{cases_lt}
 use Rattle.std.proofs.lemmas.List.{ext_get_or, get_or-replicate, length-replicate, length-set}
 use Rattle.std.specs.List.{AllWithin}

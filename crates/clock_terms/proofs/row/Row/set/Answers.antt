@@ -21,8 +21,8 @@ place_in_group-place-requires-clause-start c =
     (vec_capacity row.held) c.args.self.now c.args.product c.index.result.now c.self.invariant c.self.view_is
     c.requires.product c.as_slice.ensures.value c.index.ensures
 
-pub overflow_cast-one : goal.overflow_cast-one
-overflow_cast-one c =
+pub overflow_cast-entry : goal.overflow_cast-entry
+overflow_cast-entry c =
     let row = c.self.inside in
     omega (
       arith,
