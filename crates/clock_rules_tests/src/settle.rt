@@ -148,7 +148,8 @@ fn can_settle(setup: &Setup, grid: &Grid, changes: &[Change]) -> bool
         && keep_caps(setup, grid, changes)
 }
 
-/// Processes changes on the demands of a round, if they can be processed.
+/// Processes changes on the demands of a round, if they can be processed, on a board that expects
+/// `count` of them.
 fn settle_changes<P: Processor>(
     alloc: Global,
     processor: &P,
@@ -156,6 +157,7 @@ fn settle_changes<P: Processor>(
     eligibilities: &Amounts,
     grid: &Grid,
     changes: &Changes,
+    count: usize,
 ) -> Option<Settled>
     requires bidders { length eligibilities.now ≡ length setup.now.bidders }
     requires within { IsWithinEligibility setup.now.products eligibilities.now grid.now }
@@ -165,7 +167,10 @@ fn settle_changes<P: Processor>(
     if !can_settle(setup, grid, changes.as_slice()) {
         return None;
     }
-    let Ok(board) = Board::new(alloc, setup, eligibilities, grid) else {
+    let Ok(copy) = grid.copy(alloc) else {
+        return None;
+    };
+    let Ok(board) = Board::for_requests(alloc, setup, eligibilities, copy, count) else {
         return None;
     };
     match processor.settle(alloc, board, changes) {
@@ -174,7 +179,8 @@ fn settle_changes<P: Processor>(
     }
 }
 
-/// Processes requests on the demands of a round, if they can be processed.
+/// Processes requests on the demands of a round, if they can be processed, on a board that expects
+/// `count` of them.
 fn settle<P: Processor>(
     alloc: Global,
     processor: &P,
@@ -182,6 +188,7 @@ fn settle<P: Processor>(
     eligibilities: &Amounts,
     grid: &Grid,
     asked: &[Asked],
+    count: usize,
 ) -> Option<Settled>
     requires bidders { length eligibilities.now ≡ length setup.now.bidders }
     requires within { IsWithinEligibility setup.now.products eligibilities.now grid.now }
@@ -191,7 +198,15 @@ fn settle<P: Processor>(
     let Some(changes) = requests(alloc, asked) else {
         return None;
     };
-    let settled = settle_changes(alloc, processor, setup, eligibilities, grid, &changes);
+    let settled = settle_changes(
+        alloc,
+        processor,
+        setup,
+        eligibilities,
+        grid,
+        &changes,
+        count,
+    );
     drop(changes);
     settled
 }
@@ -223,16 +238,25 @@ fn settle_in_turn<P: Processor>(
     eligibilities: &Amounts,
     grid: &Grid,
     requests: (&[Asked], &[Asked]),
+    count: usize,
 ) -> Option<Settled>
     requires bidders { length eligibilities.now ≡ length setup.now.bidders }
     requires within { IsWithinEligibility setup.now.products eligibilities.now grid.now }
     ensures { IfSome result (λ settled. length settled.grid ≡ length setup.now.bidders) }
 {
     let (first, second) = requests;
-    let Some(begun) = settle(alloc, processor, setup, eligibilities, grid, first) else {
+    let Some(begun) = settle(alloc, processor, setup, eligibilities, grid, first, count) else {
         return None;
     };
-    let settled = settle(alloc, processor, setup, eligibilities, begun.grid(), second);
+    let settled = settle(
+        alloc,
+        processor,
+        setup,
+        eligibilities,
+        begun.grid(),
+        second,
+        count,
+    );
     drop(begun);
     settled
 }
@@ -243,6 +267,7 @@ fn settle_from_none<P: Processor>(
     processor: &P,
     setup: &Setup,
     requests: (&[Asked], &[Asked]),
+    count: usize,
 ) -> Option<Settled>
     ensures { IfSome result (λ settled. length settled.grid ≡ length setup.now.bidders) }
 {
@@ -252,7 +277,15 @@ fn settle_from_none<P: Processor>(
     let Ok(none) = Grid::zero(alloc, setup) else {
         return None;
     };
-    settle_in_turn(alloc, processor, setup, &eligibilities, &none, requests)
+    settle_in_turn(
+        alloc,
+        processor,
+        setup,
+        &eligibilities,
+        &none,
+        requests,
+        count,
+    )
 }
 
 /// A result of bid processing: the demands row by row, what is left of each request, and the number
@@ -277,17 +310,18 @@ fn compare(rt: &impl Abort, alloc: Global, shows: &str, settled: &Settled, bidde
 /// a request's room by the event queue.
 pub type Case<'a> = (&'a str, &'a [Asked], &'a [Asked], End<'a>, u64);
 
-/// Processes requests after first ones, and asserts the result. Returns the number of tests of a
-/// request's room.
+/// Processes requests after first ones, each time on a board that expects `count` of them, and
+/// asserts the result. Returns the number of tests of a request's room.
 pub fn settle_twice<P: Processor>(
     rt: &impl Abort,
     alloc: Global,
     processor: &P,
     setup: &Setup,
     case: &Case,
+    count: usize,
 ) -> Option<u64> {
     let &(shows, first, second, end, _) = case;
-    let Some(settled) = settle_from_none(alloc, processor, setup, (first, second)) else {
+    let Some(settled) = settle_from_none(alloc, processor, setup, (first, second), count) else {
         return None;
     };
     compare(

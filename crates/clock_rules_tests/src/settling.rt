@@ -28,14 +28,14 @@ const Z_DROPS_B: Asked = (Kind::Reduction, 2, 1, 1, 100);
 
 const X_DROPS_B: Asked = (Kind::Reduction, 0, 1, 2, 106);
 
-/// Processes the requests of a case with both processors, and asserts the results. Returns whether
-/// the event queue makes at most the case's number of tests, or `None` if a request cannot be
-/// processed.
+/// Processes the requests of a case with both processors, and asserts the results. The board of the
+/// rescanned list expects many requests, the one of the event queue few. Returns whether the event
+/// queue makes at most the case's number of tests, or `None` if a request cannot be processed.
 fn settles(rt: &impl Abort, alloc: Global, setup: &Setup, case: &Case) -> Option<bool> {
-    let Some(_) = settle_twice(rt, alloc, &Plain, setup, case) else {
+    let Some(_) = settle_twice(rt, alloc, &Plain, setup, case, usize::MAX) else {
         return None;
     };
-    match settle_twice(rt, alloc, &Woken, setup, case) {
+    match settle_twice(rt, alloc, &Woken, setup, case, 0) {
         Some(tests) => Some(tests <= case.4),
         None => None,
     }

@@ -30,13 +30,13 @@ module _ (setup : SetupFields) (number : ℕ) (prices : List PricePair) (eligibi
       ∙ ap (λ (one : OpenRoundFields). new_board one.setup.products (eligibilities_of one.before) grid) same
       ∙ ap (new_board round.setup.products (eligibilities_of round.before)) are
 
-pub on-requires-clause-bidders : goal.on-requires-clause-bidders
-on-requires-clause-bidders g c =
+pub for_requests-requires-clause-bidders : goal.for_requests-requires-clause-bidders
+for_requests-requires-clause-bidders g c =
     rw (c.in_ok-grid.ensures, ← c.self.view_is)
     (length-map _ (λ (held : Holding). held.demands) ∙ c.self.invariant.1.holdings)
 
-pub on-requires-clause-within : goal.on-requires-clause-within
-on-requires-clause-within g c =
+pub for_requests-requires-clause-within : goal.for_requests-requires-clause-within
+for_requests-requires-clause-within g c =
     let grid = rw (← c.self.view_is) at c.in_ok-grid.ensures in
     subst (λ (list : List ℕ). IsWithinEligibility c.self.inside.setup.now.products list c.in_ok-grid.grid)
     (sym (held_eligibilities c.self.inside.eligibilities.now c.self.inside.demands.now c.self.invariant.0))
