@@ -79,8 +79,7 @@ fn are_capped(setup: &Setup, bids: &[Bid]) -> bool
 {
     let products = setup.products.as_slice();
     bids.iter().all(|bid| {
-        bid.product < products.len() as u64
-            && bid.quantity <= products[bid.product as usize].cap
+        bid.product < products.len() as u64 && bid.quantity <= products[bid.product as usize].cap
     })
 }
 

@@ -14,7 +14,8 @@ use clock_device::{Items, NoMemory};
 use std::alloc::Global;
 use std::marker::Model;
 
-/// The fewest changes for which an open grid has cells.
+/// The fewest changes for which an open grid has cells. To fill the cells of the largest grid, and
+/// to read them at the end, can cost more than fewer changes in rows.
 const MANY_CHANGES: usize = 1 << 18;
 
 /// The demands of an auction during bid processing: those of a [`Grid`], for many changes.
@@ -68,7 +69,8 @@ fn cells_of(alloc: Global, grid: &Grid, changes: usize) -> Result<Vec<Items<u16>
     Ok(cells)
 }
 
-/// Like [`Row::change`], in a list of cells.
+/// Increases or reduces one demand of a list of cells by `amount` blocks. Requires a product of the
+/// list, and a new demand of at most 1,000 blocks.
 fn change_cell(cells: &mut Items<u16>, product: usize, kind: Kind, amount: u64)
     requires product { product < length cells.old }
     requires small { changed_demand kind (slice_index cells.old product) amount ≤ most_supply }

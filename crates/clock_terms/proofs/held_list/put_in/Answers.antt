@@ -11,7 +11,7 @@ returns-clause-starts c =
     let put : c.insert.new.self.items ≡ insert c.args.held.now.items c.args.place c.args.one = search rules in
     let same = c.as_mut_slice-starts.ensures.value in
     let same_at : (group : ℕ) → slice_index c.as_mut_slice-starts.result.now group
-        ≡ slice_index c.args.starts.now.items group = λ group. ap (λ (list : List ℕ). slice_index list group) same in
+    ≡ slice_index c.args.starts.now.items group = λ group. ap (λ (list : List ℕ). slice_index list group) same in
     let count = sym (loop.kept ∙ c.as_mut_slice-starts.ensures.len) in
     subst (AreStarts c.insert.new.self.items) (sym (rewritten c.args.starts.now.len c.loop-group.starts
     c.args.starts.now.items count))

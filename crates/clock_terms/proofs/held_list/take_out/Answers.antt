@@ -20,7 +20,7 @@ returns-clause-starts c =
     let loop = c.loop-group.invariant in
     let same = c.as_mut_slice-starts.ensures.value in
     let same_at : (group : ℕ) → slice_index c.as_mut_slice-starts.result.now group
-        ≡ slice_index c.args.starts.now.items group = λ group. ap (λ (list : List ℕ). slice_index list group) same in
+    ≡ slice_index c.args.starts.now.items group = λ group. ap (λ (list : List ℕ). slice_index list group) same in
     let count = sym (loop.kept ∙ c.as_mut_slice-starts.ensures.len) in
     subst (AreStarts c.remove.new.self.items) (sym (rewritten c.args.starts.now.len c.loop-group.starts
     c.args.starts.now.items count))
