@@ -6,8 +6,10 @@ use Rattle.std.proofs.lemmas.List.{get_or-set_other, get_or_past, get_or-replica
 use Rattle.std.proofs.lemmas.List.Sums.{sum_by-set, sum_by-le, sum_by-cons, get_or-le-sum_by}
 use Rattle.std.proofs.lemmas.List.Elements.{All-set, All-weaker}
 use Rattle.std.proofs.lemmas.Bool.{cases_lt, cases_eq}
+use Rattle.std.proofs.lemmas.Grind.{common_steps}
 use Rattle.clock_terms.specs.declared.setup.Product.{Product}
-use Rattle.clock_terms.specs.Limits.{IsProduct, IsRow, IsSetup, SetupFields, most_bidders, most_supply, no_product}
+use Rattle.clock_terms.specs.Limits.{IsProduct, IsRow, IsSetup, SetupFields, cap_of, most_bidders, most_supply}
+use Rattle.clock_terms.specs.Limits.{no_product}
 use Rattle.clock_terms.specs.Eligibility.{activity}
 use Rattle.clock_terms.specs.Demands.{total_of, demand_at, row_of, with_demand}
 use Rattle.clock_terms.specs.inside.Demands.{IsGridWithTotals}
@@ -74,7 +76,7 @@ in_totals grid totals p kept wide =
     let same : length (get_or grid 0 []) ≡ length totals = kept.small.same_length 0 [] kept.has_bidder in
     omega arith
 
--- the total that `Grid::change` computes: the old total, less the old demand, plus the new one
+-- the total that `Grid::set` computes: the old total, less the old demand, plus the new one
 pub total_after : (grid : List (List ℕ)) (totals : List ℕ) (b p v : ℕ) → IsGridWithTotals grid totals → b < length grid
     → v ≤ most_supply → ((total_of grid p - demand_at grid b p) + v + demand_at grid b p ≡ total_of grid p + v)
     × ((total_of grid p - demand_at grid b p) + v ≤ (most_bidders + 1) * most_supply)
@@ -98,6 +100,14 @@ zeros_row products = record {
   each = length-replicate {A = ℕ} (length products) 0;
   capped = λ product h. rw (get_or-replicate {A = ℕ} (length products) product 0 0
       (omega (arith, length-replicate {A = ℕ} (length products) 0))) (omega arith);
+}
+
+-- a row with one demand changed is within the caps, if the new demand is
+pub row_kept : (products : List Product) (row : List ℕ) (p v : ℕ) → IsRow products row → v ≤ cap_of products p
+    → IsRow products (set row p v)
+row_kept products row p v is most = record {
+  each = grind (arith, common_steps, is.each);
+  capped = λ k lt. grind (arith, common_steps, is.capped, is.each);
 }
 
 -- the invariant of `Grid`, for rows of a set-up and their totals

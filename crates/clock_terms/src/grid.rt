@@ -1,11 +1,10 @@
 ghost use Rattle.std.specs.Prelude.{◌≡◌, ℕ, List, ◌+◌, ◌*◌, ◌≤◌, ◌<◌, length, All, IfOk};
 ghost use Rattle.std.specs.Prelude.{slice_index};
 ghost use Rattle.clock_terms.specs.Limits.{IsRow, most_bidders, most_supply};
-ghost use Rattle.clock_terms.specs.Demands.{total_of, demand_at, changed_demand, row_of};
+ghost use Rattle.clock_terms.specs.Demands.{total_of, demand_at, row_of};
 ghost use Rattle.clock_terms.specs.Demands.{with_demand, no_demands};
 ghost use Rattle.clock_terms.specs.inside.Demands.{IsGridWithTotals};
 
-use crate::change::Kind;
 use crate::row::Row;
 use crate::setup::Setup;
 use clock_device::{Items, NoMemory};
@@ -133,27 +132,10 @@ impl Grid {
         requires small { demand ≤ most_supply }
         ensures { self.new ≡ with_demand self.old bidder product demand }
     {
-        let before = self.get(bidder, product);
-        if before < demand {
-            self.change(bidder, product, Kind::Increase, demand - before);
-        } else {
-            self.change(bidder, product, Kind::Reduction, before - demand);
-        }
-    }
-
-    /// Increases or reduces one demand by `amount` blocks, and changes no other. Requires a bidder
-    /// and a product of the grid, and a new demand of at most 1,000 blocks. Allocates nothing.
-    pub fn change(&mut self, bidder: usize, product: usize, kind: Kind, amount: u64)
-        requires bidder { bidder < length self.old }
-        requires product { All (λ row. product < length row) self.old }
-        requires small { changed_demand kind
-            (demand_at self.old bidder product) amount ≤ most_supply }
-        ensures { self.new ≡ with_demand self.old bidder product
-            (changed_demand kind (demand_at self.old bidder product) amount) }
-    {
         let total = self.total(product);
-        let before = self.rows[bidder].change(product, kind, amount);
-        self.totals
-            .set(product, total - before + kind.after(before, amount));
+        let row = &mut self.rows[bidder];
+        let before = row.get(product);
+        row.set(product, demand);
+        self.totals.set(product, total - before + demand);
     }
 }

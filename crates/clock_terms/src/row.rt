@@ -167,7 +167,7 @@ impl Row {
 
     /// Sets the demand for a product, in blocks, and changes no other. Requires a product of the
     /// row, and a demand of at most 1,000 blocks. Allocates nothing.
-    pub fn set(&mut self, product: usize, demand: u64)
+    pub(crate) fn set(&mut self, product: usize, demand: u64)
         requires product { product < length self.old }
         requires small { demand ≤ most_supply }
         ensures { self.new ≡ slice_set self.old product demand }
@@ -181,25 +181,16 @@ impl Row {
         store(&mut self.held, &mut self.starts, place, entry);
     }
 
-    /// Increases or reduces the demand for a product by `amount` blocks, and returns the demand
-    /// before. Changes no other. Requires a product of the row, and a new demand of at most 1,000
-    /// blocks. Allocates nothing.
-    pub(crate) fn change(&mut self, product: usize, kind: Kind, amount: u64) -> u64
+    /// Increases or reduces the demand for a product by `amount` blocks, and changes no other.
+    /// Requires a product of the row, and a new demand of at most 1,000 blocks. Allocates nothing.
+    pub(crate) fn change(&mut self, product: usize, kind: Kind, amount: u64)
         requires product { product < length self.old }
         requires small { changed_demand kind (slice_index self.old product) amount ≤ most_supply }
-        ensures before { result ≡ slice_index self.old product }
-        ensures changed { self.new ≡ slice_set self.old product
+        ensures { self.new ≡ slice_set self.old product
             (changed_demand kind (slice_index self.old product) amount) }
     {
-        let start = self.starts[product / GROUP_SIZE] as usize;
-        let place = place_in_group(self.held.as_slice(), start, product);
-        let before = demand_at(self.held.as_slice(), place, product);
-        let one = PositiveDemand {
-            product: product as u16,
-            demand: kind.after(before, amount) as u16,
-        };
-        store(&mut self.held, &mut self.starts, place, one);
-        before
+        let before = self.get(product);
+        self.set(product, kind.after(before, amount));
     }
 
     /// Returns all demands, in two bytes each. May return `NoMemory`.
