@@ -6,8 +6,8 @@ use Rattle.std.specs.Prelude.{codes, nat_lt}
 use Rattle.std.proofs.lemmas.List.{length-take}
 use Rattle.httparse.specs.Grammar.{RequestHead}
 use Rattle.clock_device.specs.Reports.{Reading}
-use Rattle.clock_http.specs.declared.code.Code.{Code}
-use Rattle.clock_http.specs.declared.code.Code.TheVariants.{LongBody, LongHead}
+use Rattle.clock_api.specs.declared.code.Code.{Code}
+use Rattle.clock_api.specs.declared.code.Code.TheVariants.{LongBody, LongHead}
 use Rattle.clock_http.specs.Scans.{head_length}
 use Rattle.clock_http.specs.HeaderLines.{body_length, body_limit, length_from, pairs_of, unless_coded, values_of}
 use Rattle.clock_http.specs.HeaderLines.{within_limit}

@@ -1,7 +1,7 @@
 -- The words of a fault are written part by part: joining the parts gives the line.
 use Rattle.std.proofs.Common.{◌≡◌, ℕ, List, ◌++◌, Option, Some, None, refl, append_assoc}
 use Rattle.std.proofs.lemmas.List.{append-nil}
-use Rattle.clock_http.specs.declared.code.Code.{Code}
+use Rattle.clock_api.specs.declared.code.Code.{Code}
 use Rattle.clock_console.specs.declared.fault.Words.{Words}
 use Rattle.clock_console.specs.inside.Lines.{spaced_number, spaced_code, text_of_words, with_code, with_number}
 

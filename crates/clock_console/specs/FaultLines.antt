@@ -18,7 +18,7 @@ use Rattle.clock_journal.specs.declared.recovery.JournalFault.{JournalFault}
 use Rattle.clock_journal.specs.declared.recovery.JournalFault.TheVariants as in_journal
 use Rattle.clock_journal.specs.declared.mirror.LevelFault.{LevelFault}
 use Rattle.clock_journal.specs.declared.mirror.LevelFault.TheVariants as in_mirror
-use Rattle.clock_http.specs.Codes.{code_text}
+use Rattle.clock_api.specs.Codes.{code_text}
 use Rattle.clock_console.specs.declared.fault.Fault.{Fault}
 use Rattle.clock_console.specs.declared.fault.Fault.TheVariants as fault
 

@@ -2,7 +2,7 @@
 use Rattle.std.proofs.Common.{ℕ, List, ◌∷◌, inl, inr, sym, subst}
 use Rattle.clock_terms.specs.Limits.{SetupFields}
 use Rattle.clock_house.specs.House.{HouseFields, IsFollowedBy, StandsFor, StandsForTheSame}
-use Rattle.clock_http.specs.Replies.{Answer}
+use Rattle.clock_api.specs.Replies.{Answer}
 use Rattle.clock_front.specs.Answered.{AnswersText}
 use Rattle.clock_front.specs.Fronts.{StandsForTexts, commands_of, text_command}
 use Rattle.clock_front.specs.inside.Answered.{AnswersAfter}

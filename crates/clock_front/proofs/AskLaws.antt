@@ -3,12 +3,12 @@ use Rattle.std.proofs.Common.{◌≡◌, ℕ, List, Bool, true, false, ◌||◌,
 use Rattle.std.proofs.Common.{subst}
 use Rattle.std.specs.Prelude.{if◌then◌else◌, codes}
 use Rattle.clock_house.specs.House.{HouseFields}
-use Rattle.clock_http.specs.Replies.{Answer}
-use Rattle.clock_http.specs.Heads.{same_bytes}
+use Rattle.clock_api.specs.Replies.{Answer}
+use Rattle.clock_api.specs.Bytes.{same_bytes}
 use Rattle.clock_http.specs.Framing.{Head}
-use Rattle.clock_http.specs.Routes.{has_method}
-use Rattle.clock_http.specs.declared.routes.Page.{Page}
-use Rattle.clock_http.specs.declared.routes.Page.TheVariants as pages
+use Rattle.clock_api.specs.Routes.{has_method}
+use Rattle.clock_api.specs.declared.routes.Page.{Page}
+use Rattle.clock_api.specs.declared.routes.Page.TheVariants as pages
 use Rattle.clock_bodies.specs.Bodies.{put_body}
 use Rattle.clock_bodies.specs.CloseBodies.{close_body}
 use Rattle.clock_front.specs.declared.front.callers.Caller.{Caller}

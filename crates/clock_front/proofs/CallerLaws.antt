@@ -9,7 +9,7 @@ use Rattle.std.specs.Cmp.Lexicographic.{bytes_decides}
 use Rattle.clock_terms.specs.declared.setup.Bidder.{Bidder as BidderRow}
 use Rattle.clock_terms.specs.Limits.{SetupFields}
 use Rattle.clock_house.specs.History.{bidder_at}
-use Rattle.clock_http.specs.Heads.{same_bytes}
+use Rattle.clock_api.specs.Bytes.{same_bytes}
 use Rattle.std.specs.Option.{option_map_or}
 use Rattle.clock_front.specs.declared.front.callers.Caller.TheVariants.{Operator, Bidder}
 use Rattle.clock_front.specs.Callers.{bidder_tokens, holder, caller, HasOwnTokens}

@@ -5,7 +5,7 @@ use Rattle.std.specs.Prelude.{IfErr, IsSome}
 use Rattle.clock_connections.specs.declared.connections.HubFault.{HubFault}
 use Rattle.clock_connections.specs.declared.connections.HubFault.TheVariants.{NoMemory}
 use Rattle.clock_house.specs.House.{HouseFields}
-use Rattle.clock_http.specs.Replies.{Answer}
+use Rattle.clock_api.specs.Replies.{Answer}
 use Rattle.clock_connections.specs.declared.connections.Conn.{Conn}
 use Rattle.clock_connections.specs.Connections.{ConnectionFields, IsTaken}
 use Rattle.clock_connections.specs.inside.Waiting.{AllNeedMore}

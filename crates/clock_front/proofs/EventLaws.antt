@@ -10,7 +10,7 @@ use Rattle.clock_house.specs.History.{history}
 use Rattle.clock_house.specs.House.{HouseFields}
 use Rattle.clock_house.specs.Laws.{IsSound}
 use Rattle.clock_front.specs.Fronts.{StandsForTexts, commands_of}
-use Rattle.clock_http.specs.Replies.{Answer}
+use Rattle.clock_api.specs.Replies.{Answer}
 use Rattle.clock_front.specs.Headline.{Runs, IsRun}
 use Rattle.clock_front.proofs.RunLaws.{IsUnderWay, step}
 use Rattle.clock_connections.specs.declared.connections.Conn.{Conn}

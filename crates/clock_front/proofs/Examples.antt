@@ -1,8 +1,8 @@
 -- The bytes of the out-of-memory reply, computed.
 use Rattle.std.specs.Prelude.{◌≡◌, ◌++◌, codes, refl}
 use Rattle.std.specs.Fmt.{digits}
-use Rattle.clock_http.specs.declared.code.Code.TheVariants.{Memory}
-use Rattle.clock_http.specs.Replies.{reply_bytes}
+use Rattle.clock_api.specs.declared.code.Code.TheVariants.{Memory}
+use Rattle.clock_api.specs.Replies.{reply_bytes}
 use Rattle.clock_front.proofs.FrontLaws.{constant_bytes}
 
 out_of_memory_is_reported : constant_bytes Memory ≡ codes

@@ -8,19 +8,19 @@ use Rattle.clock_closing.specs.declared.closed_round.ClosedRound.{ClosedRound}
 use Rattle.clock_house.specs.History.{history}
 use Rattle.clock_house.specs.House.{HouseFields, StandsFor}
 use Rattle.clock_bids.specs.declared.sheet.Bid.{Bid}
-use Rattle.clock_http.specs.declared.code.Code.{Code}
+use Rattle.clock_api.specs.declared.code.Code.{Code}
 use Rattle.clock_http.specs.Framing.{Head, Framing, incomplete, refusal, whole, framing, is_incomplete, needs_more}
 use Rattle.clock_http.proofs.FramedLaws.{refused_by, whole_head}
 use Rattle.std.specs.Prelude.{IfOk, OnErr, OnOk}
 use Rattle.clock_views.specs.Refusals.{bare}
 use Rattle.clock_views.specs.RefusalPage.{refusal_bytes}
 use Rattle.clock_views.proofs.Codes.{refusal_in_bytes}
-use Rattle.clock_http.specs.Replies.{Answer, reply_bytes}
+use Rattle.clock_api.specs.Replies.{Answer, reply_bytes}
 use Rattle.clock_front.specs.FixedReplies.{cut_short}
 use Rattle.clock_front.specs.inside.FixedReplies.{refusal_of, is_fixed}
 use Rattle.clock_front.specs.Callers.{caller}
 use Rattle.clock_front.specs.Requests.{Ask, Request, ask_of, ask_by_route, request_of, turned_away}
-use Rattle.clock_http.specs.Routes.{page_of}
+use Rattle.clock_api.specs.Routes.{page_of}
 use Rattle.clock_front.specs.declared.front.callers.Caller.{Caller}
 use Rattle.clock_front.specs.Outcomes.{Outcome, outcome, answer_of, refused, command_of}
 use Rattle.clock_front.specs.Fronts.{house_after}

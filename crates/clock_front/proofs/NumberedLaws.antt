@@ -4,7 +4,7 @@ use Rattle.std.proofs.Common.{Result, Ok, Err, sym, ◌∙◌, ap, refl, subst}
 use Rattle.std.specs.Prelude.{true, IsSome, option_and_then, option_map, if◌then◌else◌}
 use Rattle.std.proofs.lemmas.List.{set-get_or}
 use Rattle.clock_http.specs.Framing.{needs_more}
-use Rattle.clock_http.specs.Replies.{Answer}
+use Rattle.clock_api.specs.Replies.{Answer}
 use Rattle.clock_connections.specs.declared.connections.Conn.{Conn}
 use Rattle.clock_connections.specs.declared.connections.HubFault.{HubFault}
 use Rattle.clock_connections.specs.declared.connections.HubFault.TheVariants.{Full, NoMemory, Unknown}

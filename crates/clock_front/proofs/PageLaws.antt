@@ -8,9 +8,9 @@ use Rattle.std.proofs.Math.Seq.{drop-append_seam}
 use Rattle.serde_json.specs.Data.{Data}
 use Rattle.serde_json.specs.Written.{compact_text}
 use Rattle.clock_bids.specs.Holding.{Holding}
-use Rattle.clock_http.specs.declared.code.Code.{Code}
-use Rattle.clock_http.specs.declared.routes.Page.{Page}
-use Rattle.clock_http.specs.Replies.{Answer, reply_bytes}
+use Rattle.clock_api.specs.declared.code.Code.{Code}
+use Rattle.clock_api.specs.declared.routes.Page.{Page}
+use Rattle.clock_api.specs.Replies.{Answer, reply_bytes}
 use Rattle.clock_front.specs.Outcomes.{Outcome, answer_of, with_page}
 use Rattle.clock_front.specs.Requests.{Ask}
 use Rattle.clock_front.specs.Rooms.{reply_room}

@@ -13,7 +13,7 @@ use Rattle.clock_house.specs.PublicState.{PublicState, first_state, state_after}
 use Rattle.clock_house.specs.History.{history, public_state, round_at}
 use Rattle.clock_house.proofs.Numbers.{reverse_cons}
 use Rattle.clock_http.specs.Decimals.{plain_number}
-use Rattle.clock_http.specs.declared.code.Code.TheVariants.{Token}
+use Rattle.clock_api.specs.declared.code.Code.TheVariants.{Token}
 use Rattle.clock_views.specs.Refusals.{bare}
 use Rattle.clock_views.specs.PublicPages.{status_value, products_value, sheet_value}
 use Rattle.clock_front.specs.declared.front.callers.Caller.TheVariants.{Nobody}

@@ -9,7 +9,7 @@ use Rattle.clock_closing.specs.declared.closed_round.ClosedRound.{ClosedRound}
 use Rattle.clock_closing.specs.declared.fault.CloseFault.{CloseFault}
 use Rattle.clock_house.specs.declared.fault.PutFault.{PutFault}
 use Rattle.clock_house.specs.House.{HouseFields, IsFollowedBy, StandsForTheSame, put_fault_in, closing_in}
-use Rattle.clock_http.specs.Replies.{Answer}
+use Rattle.clock_api.specs.Replies.{Answer}
 use Rattle.clock_views.specs.Refusals.{Shown, bare, shown_close, shown_put}
 use Rattle.clock_bodies.specs.CloseBodies.{in_version}
 use Rattle.clock_bodies.specs.declared.put_body.PutBody.{PutBody}

@@ -2,7 +2,7 @@
 -- right reply is private, or public, by the laws of isolation.
 use Rattle.std.proofs.Common.{◌≡◌, ℕ, List, [], ◌∷◌, ◌++◌, refl, ◌∙◌, ap, subst, inl, inr}
 use Rattle.clock_terms.specs.Limits.{SetupFields, IsSetup}
-use Rattle.clock_http.specs.Replies.{Answer}
+use Rattle.clock_api.specs.Replies.{Answer}
 use Rattle.clock_house.specs.House.{HouseFields}
 use Rattle.clock_front.specs.Answered.{AnswersText}
 use Rattle.clock_front.specs.Fronts.{reply, StandsForTexts}

@@ -10,7 +10,7 @@ use Rattle.std.specs.Map.{lookup}
 use Rattle.indexmap.specs.IndexMap.{insert_entry}
 use Rattle.clock_terms.specs.declared.setup.Bidder.{Bidder as BidderRow}
 use Rattle.clock_terms.specs.Limits.{SetupFields}
-use Rattle.clock_http.specs.Heads.{same_bytes}
+use Rattle.clock_api.specs.Bytes.{same_bytes}
 use Rattle.clock_front.specs.Callers.{holder, bidder_tokens, caller}
 use Rattle.clock_front.specs.inside.Callers.{IsKnown}
 use Rattle.clock_front.specs.inside.TokenTable.{found, caller_by}

@@ -3,7 +3,7 @@
 --     AnswersText text answer old new      that, or out of memory and no change
 use Rattle.std.specs.Prelude.{◌≡◌, ◌⊎◌, ℕ, List}
 use Rattle.clock_house.specs.House.{HouseFields, IsFollowedBy, StandsForTheSame}
-use Rattle.clock_http.specs.Replies.{Answer}
+use Rattle.clock_api.specs.Replies.{Answer}
 use Rattle.clock_front.specs.Fronts.{IsOutOfMemoryReply, StandsForTexts, right_answer, text_command}
 use Rattle.clock_front.specs.Headline.{IsRight}
 

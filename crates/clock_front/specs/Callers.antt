@@ -6,7 +6,7 @@
 use Rattle.std.specs.Prelude.{ℕ, suc, List, [], ◌∷◌, map, if◌then◌else◌, Option, Some, None}
 use Rattle.clock_terms.specs.declared.setup.Bidder.{Bidder as BidderRow}
 use Rattle.clock_terms.specs.Limits.{SetupFields, AreDistinct}
-use Rattle.clock_http.specs.Heads.{same_bytes}
+use Rattle.clock_api.specs.Bytes.{same_bytes}
 use Rattle.clock_front.specs.declared.front.callers.Caller.{Caller}
 use Rattle.clock_front.specs.declared.front.callers.Caller.TheVariants.{Nobody, Operator, Bidder}
 

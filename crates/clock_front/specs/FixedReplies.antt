@@ -1,8 +1,8 @@
 -- Two replies with constant bytes.
 --     no_memory, cut_short      the out-of-memory reply; the reply to input that ended too early
 use Rattle.clock_views.specs.Refusals.{bare}
-use Rattle.clock_http.specs.Replies.{Answer}
-use Rattle.clock_http.specs.declared.code.Code.TheVariants.{CutShort, Memory}
+use Rattle.clock_api.specs.Replies.{Answer}
+use Rattle.clock_api.specs.declared.code.Code.TheVariants.{CutShort, Memory}
 use Rattle.clock_front.specs.Outcomes.{refused, answer_of}
 
 -- The out-of-memory reply, 503 `memory`.

@@ -11,9 +11,9 @@ use Rattle.clock_terms.specs.Limits.{SetupFields}
 use Rattle.clock_house.specs.Command.{Command}
 use Rattle.clock_house.specs.History.{history, sheet_in_force, for_each_bidder}
 use Rattle.clock_house.specs.House.{HouseFields, StandsFor}
-use Rattle.clock_http.specs.declared.code.Code.{Code}
+use Rattle.clock_api.specs.declared.code.Code.{Code}
 use Rattle.clock_http.specs.Framing.{framing, refusal}
-use Rattle.clock_http.specs.Replies.{Answer}
+use Rattle.clock_api.specs.Replies.{Answer}
 use Rattle.clock_front.specs.FixedReplies.{no_memory, cut_short}
 use Rattle.clock_front.specs.Requests.{request_of}
 use Rattle.clock_front.specs.Callers.{caller}

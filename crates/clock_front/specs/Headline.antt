@@ -45,7 +45,7 @@ use Rattle.std.specs.Prelude.{◌≡◌, ◌<◌, ◌⊎◌, ℕ, true, List, []
 use Rattle.clock_terms.specs.Limits.{SetupFields, public_setup}
 use Rattle.clock_house.specs.History.{history, bidder_at}
 use Rattle.clock_house.specs.Laws.{IsSound}
-use Rattle.clock_http.specs.Replies.{Answer}
+use Rattle.clock_api.specs.Replies.{Answer}
 use Rattle.clock_connections.specs.declared.connections.Event.{Event}
 use Rattle.clock_front.specs.declared.runs.EventReply.{EventReply}
 use Rattle.clock_front.specs.Callers.{HasOwnTokens}

@@ -11,7 +11,7 @@ use Rattle.clock_connections.specs.declared.connections.HubFault.{HubFault}
 use Rattle.clock_connections.specs.declared.connections.HubFault.TheVariants.{Full, NoMemory}
 use Rattle.clock_connections.specs.declared.connections.HubFault.TheVariants.{Unknown}
 use Rattle.clock_http.specs.Framing.{needs_more}
-use Rattle.clock_http.specs.Replies.{Answer}
+use Rattle.clock_api.specs.Replies.{Answer}
 use Rattle.clock_front.specs.Answered.{AnswersText}
 use Rattle.clock_front.specs.declared.hub.Fed.{Fed}
 use Rattle.clock_front.specs.declared.hub.Fed.TheVariants.{More, Reply}

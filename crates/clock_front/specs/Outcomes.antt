@@ -16,14 +16,14 @@ use Rattle.clock_closing.specs.declared.closed_round.ClosedRound.{ClosedRound}
 use Rattle.clock_house.specs.House.{HouseFields, state_in, holding_in, put_fault_in, closing_in}
 use Rattle.clock_house.specs.declared.fault.PutFault.{PutFault}
 use Rattle.clock_closing.specs.declared.fault.CloseFault.{CloseFault}
-use Rattle.clock_http.specs.declared.code.Code.{Code}
-use Rattle.clock_http.specs.declared.code.Code.TheVariants as code
+use Rattle.clock_api.specs.declared.code.Code.{Code}
+use Rattle.clock_api.specs.declared.code.Code.TheVariants as code
 use Rattle.clock_views.specs.Refusals.{Shown, bare, shown_put, shown_close}
 use Rattle.clock_views.specs.RefusalPage.{refusal_value}
 use Rattle.clock_views.specs.PublicPages.{status_value, products_value, sheet_value}
 use Rattle.clock_views.specs.BidderPages.{account_value, bids_value, accepted_value, slip_value}
 use Rattle.clock_views.specs.OperatorPages.{closed_value, results_value}
-use Rattle.clock_http.specs.declared.routes.Page.{Page}
+use Rattle.clock_api.specs.declared.routes.Page.{Page}
 use Rattle.clock_front.specs.declared.front.callers.Caller.{Caller}
 use Rattle.clock_front.specs.declared.front.callers.Caller.TheVariants.{Nobody, Operator, Bidder}
 use Rattle.clock_bodies.specs.declared.put_body.PutBody.{PutBody}
@@ -32,7 +32,7 @@ use Rattle.clock_bodies.specs.declared.body.BodyFault.{BodyFault}
 use Rattle.clock_bodies.specs.declared.body.BodyFault.TheVariants.{NotJson, Shape, NoMemory}
 use Rattle.clock_bodies.specs.CloseBodies.{in_version}
 use Rattle.clock_http.specs.Decimals.{plain_number}
-use Rattle.clock_http.specs.Replies.{Answer, reply_bytes}
+use Rattle.clock_api.specs.Replies.{Answer, reply_bytes}
 use Rattle.clock_front.specs.Requests.{Ask}
 use Rattle.clock_front.specs.Requests as asked
 

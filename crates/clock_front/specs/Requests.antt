@@ -4,16 +4,16 @@
 --     request_of text      the token of a request, and what it asks for
 use Rattle.std.specs.Prelude.{ℕ, List, if◌then◌else◌, Option, Some, None, option_and_then, Result}
 use Rattle.std.specs.Prelude.{codes}
-use Rattle.clock_http.specs.declared.code.Code.{Code}
-use Rattle.clock_http.specs.declared.code.Code.TheVariants.{CutShort, NoPage}
-use Rattle.clock_http.specs.Heads.{same_bytes}
+use Rattle.clock_api.specs.declared.code.Code.{Code}
+use Rattle.clock_api.specs.declared.code.Code.TheVariants.{CutShort, NoPage}
+use Rattle.clock_api.specs.Bytes.{same_bytes}
 use Rattle.clock_http.specs.Framing.{Framing, incomplete, refusal, whole, Head, framing, head_in}
-use Rattle.clock_http.specs.Routes.{page_of, last_segment, has_method}
+use Rattle.clock_api.specs.Routes.{page_of, last_segment, has_method}
 use Rattle.clock_bodies.specs.Bodies.{put_body}
 use Rattle.clock_bodies.specs.CloseBodies.{close_body}
-use Rattle.clock_http.specs.declared.routes.Page.{Page}
-use Rattle.clock_http.specs.declared.routes.Page.TheVariants.{Status, Products, Sheet, Account}
-use Rattle.clock_http.specs.declared.routes.Page.TheVariants.{Bids, Slip, Close, Results}
+use Rattle.clock_api.specs.declared.routes.Page.{Page}
+use Rattle.clock_api.specs.declared.routes.Page.TheVariants.{Status, Products, Sheet, Account}
+use Rattle.clock_api.specs.declared.routes.Page.TheVariants.{Bids, Slip, Close, Results}
 use Rattle.clock_bodies.specs.declared.put_body.PutBody.{PutBody}
 use Rattle.clock_bodies.specs.declared.close_body.CloseBody.{CloseBody}
 use Rattle.clock_bodies.specs.declared.body.BodyFault.{BodyFault}

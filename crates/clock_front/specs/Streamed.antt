@@ -5,8 +5,8 @@
 --     HasServed most texts house      the front stands for these requests and at most `most` more
 use Rattle.std.specs.Prelude.{◌≡◌, ◌≤◌, ◌⊎◌, ◌++◌, ℕ, List, length, Result, Ok, Err}
 use Rattle.clock_house.specs.House.{HouseFields}
-use Rattle.clock_http.specs.declared.code.Code.{Code}
-use Rattle.clock_http.specs.Replies.{Answer}
+use Rattle.clock_api.specs.declared.code.Code.{Code}
+use Rattle.clock_api.specs.Replies.{Answer}
 use Rattle.clock_front.specs.FixedReplies.{no_memory}
 use Rattle.clock_front.specs.Answered.{AnswersText}
 use Rattle.clock_front.specs.Fronts.{StandsForTexts}

@@ -18,13 +18,13 @@ use Rattle.clock_house.specs.History.{history, bidder_at}
 use Rattle.clock_house.specs.View.{Seen, seen_of, seen_state, seen_holding, seen_in_force}
 use Rattle.clock_house.specs.View.{seen_round}
 use Rattle.clock_house.specs.View as typed
-use Rattle.clock_http.specs.declared.code.Code.TheVariants as code
+use Rattle.clock_api.specs.declared.code.Code.TheVariants as code
 use Rattle.clock_views.specs.Refusals.{bare}
 use Rattle.clock_views.specs.PublicPages.{status_value, products_value, sheet_value}
 use Rattle.clock_views.specs.BidderPages.{account_value, bids_value, slip_value}
-use Rattle.clock_http.specs.Heads.{same_bytes}
+use Rattle.clock_api.specs.Bytes.{same_bytes}
 use Rattle.clock_http.specs.Decimals.{plain_number}
-use Rattle.clock_http.specs.Replies.{Answer}
+use Rattle.clock_api.specs.Replies.{Answer}
 use Rattle.clock_front.specs.declared.front.callers.Caller.TheVariants.{Nobody}
 use Rattle.clock_front.specs.Callers.{caller}
 use Rattle.clock_front.specs.Requests.{Ask, request_of}

@@ -1,5 +1,5 @@
 ghost use Rattle.std.specs.Prelude.{◌≡◌, [], ℕ, List, IfOk, IfErr, IsOk, OnOk, OnErr};
-ghost use Rattle.clock_http.specs.declared.code.Code.{Code as ReplyCode};
+ghost use Rattle.clock_api.specs.declared.code.Code.{Code as ReplyCode};
 ghost use Rattle.clock_http.specs.Framing.{framing as framing_of, incomplete};
 ghost use Rattle.clock_http.specs.Framing.{refusal as refusal_of};
 ghost use Rattle.clock_http.specs.Shown.{IsFramed, shown_framing};
@@ -20,7 +20,8 @@ use crate::front::replies::fixed_reply;
 use crate::front::response::unchanged;
 use clock_device::{NoMemory, Text};
 use clock_house::House;
-use clock_http::{Code, Framing, Reply, Routes, frame};
+use clock_api::{Code, Reply, Routes};
+use clock_http::{Framing, frame};
 use clock_processor::Processor;
 use clock_terms::Setup;
 use clock_views::{Refusal, products_page};
@@ -134,7 +135,7 @@ impl<P: Processor> Front<P> {
 
     /// Answers a request like [`Front::answer`]. Head and body need not be next to each other in
     /// memory.
-    pub fn answer_framed(&mut self, framing: Framing<'_>) -> Reply
+    pub(crate) fn answer_framed(&mut self, framing: Framing<'_>) -> Reply
         requires { (text : List ℕ) × IsFramed text framing }
         ensures answered { (text : List ℕ) → IsFramed text framing.entry
             → AnswersText text result self.old self.new }

@@ -10,7 +10,7 @@ ghost use Rattle.clock_connections.specs.Connections.{open_text, IsConnected, Is
 
 use crate::front::Front;
 use clock_connections::{Conn, Connections, HubFault};
-use clock_http::Reply;
+use clock_api::Reply;
 use clock_processor::Processor;
 use std::alloc::Global;
 use std::marker::Model;

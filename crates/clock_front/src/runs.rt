@@ -10,7 +10,7 @@ use crate::front::Front;
 use crate::hub::{Fed, Hub};
 use clock_connections::{Conn, Event, HubFault};
 use clock_device::{Items, NoMemory, Text};
-use clock_http::Reply;
+use clock_api::Reply;
 use clock_processor::Processor;
 use clock_terms::Setup;
 use std::alloc::Global;

@@ -21,7 +21,8 @@ use Rattle.httparse.specs.Grammar.{IsField, print_section, RequestHead}
 use Rattle.httparse.specs.Grammar.{print_request, IsRequestHead, ReadsRequest, is_token_byte, is_uri_byte}
 use Rattle.httparse.specs.Grammar.{is_value_byte, is_token, IsToken}
 use Rattle.httparse.proofs.GrammarLemmas.{print_request-append, cons-append}
-use Rattle.clock_http.specs.Heads.{same_bytes, onto_first, lines_of, word, after_word, field_of, head_from, is_head}
+use Rattle.clock_http.specs.Heads.{onto_first, lines_of, word, after_word, field_of, head_from, is_head}
+use Rattle.clock_api.specs.Bytes.{same_bytes}
 use Rattle.clock_http.specs.Heads.{head_of}
 use Rattle.clock_http.specs.inside.HeadTests.{is_field}
 use Rattle.clock_http.specs.Scans.{line_ends, has_bare_line_feed, is_loose}

@@ -10,7 +10,7 @@ use Rattle.std.proofs.lemmas.List.Elements.{filter-append}
 use Rattle.httparse.specs.declared.spans.Span.{Span}
 use Rattle.httparse.specs.declared.spans.HeaderSpan.{HeaderSpan}
 use Rattle.httparse.specs.Spans.{header_bytes, span_bytes, IsWithin}
-use Rattle.clock_http.specs.Heads.{same_bytes}
+use Rattle.clock_api.specs.Bytes.{same_bytes}
 use Rattle.clock_http.specs.declared.headers.HeaderLines.{HeaderLines}
 use Rattle.clock_http.specs.HeaderLines.{is_named, values_of, length_from, within_limit, unless_coded, bearer}
 use Rattle.clock_http.specs.HeaderLines.{token_from}

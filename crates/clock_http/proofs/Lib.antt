@@ -7,7 +7,5 @@ mod HeaderLaws
 mod TextLaws
 pub mod ProgressLaws
 pub mod FramedLaws
-mod RoutePages
 mod ResultLaws
-mod RouteLaws
 mod Examples

@@ -10,8 +10,8 @@ use Rattle.std.specs.Cmp.Lexicographic.{as_long, pointwise}
 use Rattle.std.proofs.lemmas.Bool.Decides.{nat_tests}
 use Rattle.std.proofs.lemmas.List.{take-append-le, drop-append-le, length-take}
 use Rattle.std.proofs.Math.Seq.{take-nil}
-use Rattle.clock_http.specs.declared.code.Code.{Code}
-use Rattle.clock_http.specs.declared.code.Code.TheVariants.{LongHead}
+use Rattle.clock_api.specs.declared.code.Code.{Code}
+use Rattle.clock_api.specs.declared.code.Code.TheVariants.{LongHead}
 use Rattle.clock_http.specs.Scans.{head_length}
 use Rattle.clock_http.specs.inside.HeadTests.{empty_line}
 use Rattle.clock_http.specs.inside.HeadParts.{head_with_length, ended_at}

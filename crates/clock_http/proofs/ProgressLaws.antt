@@ -9,8 +9,8 @@ use Rattle.std.proofs.lemmas.List.{take-append-le, drop-append-le, length-take, 
 use Rattle.std.proofs.Math.Seq.{take-add, take-append_seam, drop-append_seam}
 use Rattle.httparse.specs.Spans.{span_bytes, IsWithin}
 use Rattle.httparse.specs.declared.spans.Span.{Span}
-use Rattle.clock_http.specs.declared.code.Code.{Code}
-use Rattle.clock_http.specs.declared.code.Code.TheVariants.{LongHead}
+use Rattle.clock_api.specs.declared.code.Code.{Code}
+use Rattle.clock_api.specs.declared.code.Code.TheVariants.{LongHead}
 use Rattle.clock_http.specs.declared.head.EndedHead.{EndedHead}
 use Rattle.clock_http.specs.declared.progress.Progress.{Progress}
 use Rattle.clock_http.specs.declared.progress.Progress.TheVariants as so_far

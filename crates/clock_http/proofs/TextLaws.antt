@@ -15,8 +15,8 @@ use Rattle.httparse.specs.Grammar.{RequestHead, ReadsRequest, print_request}
 use Rattle.httparse.specs.Outcome.{IsCompleteAnd}
 use Rattle.httparse.specs.Spans.{FindsRequest, IsRequestAt, IsRequestOf, span_bytes, header_bytes}
 use Rattle.clock_http.specs.Heads.{head_of}
-use Rattle.clock_http.specs.declared.code.Code.{Code}
-use Rattle.clock_http.specs.declared.code.Code.TheVariants.{LongHead, BadHead}
+use Rattle.clock_api.specs.declared.code.Code.{Code}
+use Rattle.clock_api.specs.declared.code.Code.TheVariants.{LongHead, BadHead}
 use Rattle.clock_http.specs.Scans.{line_ends, is_loose}
 use Rattle.clock_http.specs.HeaderLines.{pairs_of, body_length, token_of}
 use Rattle.clock_http.specs.Framing.{ended_head, or_bad_head, Head, length_read, and_length}

@@ -18,8 +18,8 @@ use Rattle.http_uri.specs.ByteClasses.{question_mark}
 use Rattle.clock_http.specs.Scans.{head_length, line_ends, is_loose}
 use Rattle.clock_http.specs.Heads.{head_of}
 use Rattle.clock_http.specs.HeaderLines.{pairs_of, body_length, token_of}
-use Rattle.clock_http.specs.declared.code.Code.{Code}
-use Rattle.clock_http.specs.declared.code.Code.TheVariants.{LongHead, BadHead}
+use Rattle.clock_api.specs.declared.code.Code.{Code}
+use Rattle.clock_api.specs.declared.code.Code.TheVariants.{LongHead, BadHead}
 
 -- the most bytes of a head, with its empty line, and its most header lines (own limits)
 abbrev pub head_limit : ℕ

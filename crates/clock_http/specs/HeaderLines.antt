@@ -10,10 +10,10 @@ use Rattle.std.specs.Str.Parse.{digits_value}
 use Rattle.httparse.specs.Ascii.{space}
 use Rattle.httparse.specs.Grammar.{RequestHead}
 use Rattle.httparse.specs.Spans.{name_and_value}
-use Rattle.clock_http.specs.Heads.{same_bytes}
+use Rattle.clock_api.specs.Bytes.{same_bytes}
 use Rattle.clock_http.specs.Decimals.{is_number}
-use Rattle.clock_http.specs.declared.code.Code.{Code}
-use Rattle.clock_http.specs.declared.code.Code.TheVariants.{Coding, BadLength, LongBody}
+use Rattle.clock_api.specs.declared.code.Code.{Code}
+use Rattle.clock_api.specs.declared.code.Code.TheVariants.{Coding, BadLength, LongBody}
 
 -- the most bytes of a body (own limit)
 abbrev pub body_limit : ℕ

@@ -1,4 +1,3 @@
-pub mod Codes
 pub mod Scans
 pub mod Heads
 pub mod Decimals
@@ -6,7 +5,4 @@ pub mod HeaderLines
 pub mod Framing
 pub mod FramingLaws
 pub mod Shown
-pub mod Routes
-pub mod Replies
-pub mod ShownReply
 pub mod inside

@@ -5,5 +5,3 @@ pub mod Framed
 pub mod HeadFields
 pub mod HeadParts
 pub mod HeadTests
-pub mod Routing
-pub mod ReplyLines

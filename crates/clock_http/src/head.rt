@@ -12,8 +12,8 @@ ghost use Rattle.clock_http.specs.inside.HeadParts.{path_of_target, head_with_le
 ghost use Rattle.clock_http.specs.Shown.{IsHeadWithin};
 ghost use Rattle.clock_http.specs.inside.HeadFields.{shown_read};
 
-use crate::code::Code;
 use crate::headers::fields_of;
+use clock_api::Code;
 use httparse::Status;
 use httparse::spans::{EMPTY_HEADER_SPAN, HeaderSpan, Span, parse_request};
 use memchr::memchr;

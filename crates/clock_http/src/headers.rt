@@ -13,8 +13,8 @@ ghost use Rattle.clock_http.specs.HeaderLines as lines;
 ghost use Rattle.clock_http.specs.Shown.{IsSomeWithin};
 ghost use Rattle.clock_http.specs.inside.HeadFields.{Pairs, AreLinesOf, AreFieldsOf};
 
-use crate::code::Code;
 use crate::decimal::{is_number, number};
+use clock_api::Code;
 use httparse::spans::{HeaderSpan, Span};
 
 /// The most bytes of a body.

@@ -1,12 +1,13 @@
 ghost use Rattle.std.specs.Prelude.{◌≡◌, ◌≤◌, ◌<◌, [], ℕ, List, length, take, None, codes};
-ghost use Rattle.clock_http.specs.{Scans.{head_length as length_of_head}, Heads.{same_bytes}};
+ghost use Rattle.clock_http.specs.Scans.{head_length as length_of_head};
+ghost use Rattle.clock_api.specs.Bytes.{same_bytes};
 ghost use Rattle.clock_http.specs.Shown.{Knows, KnowsOfStart, IsFramed, IsHeadWithin, shown_ended};
 ghost use Rattle.clock_http.specs.Shown.{shown_head, shown_progress, IsProgressWithin};
 ghost use Rattle.clock_http.specs.inside.Followed.{Waits};
 ghost use Rattle.clock_http.specs.Framing as spec;
 
-use crate::code::Code;
 use crate::head::{EndedHead, head_length, read_head};
+use clock_api::Code;
 
 /// The most bytes of a head, with its empty line.
 const HEAD_LIMIT: usize = 16_384;

@@ -23,7 +23,7 @@ use Rattle.httparse.specs.Grammar.{is_uri_byte, is_value_byte, is_ows}
 use Rattle.httparse.specs.Grammar.{skip_ows, trim_ows}
 use Rattle.httparse.proofs.TrimLemmas.{AllPass-reverse, trim_ows_space}
 use Rattle.clock_terms.specs.Limits.{IsToken, is_letter_or_digit}
-use Rattle.clock_http.specs.declared.code.Code.TheVariants.{LongHead, BadHead, BadLength, LongBody}
+use Rattle.clock_api.specs.declared.code.Code.TheVariants.{LongHead, BadHead, BadLength, LongBody}
 use Rattle.clock_http.specs.Scans.{head_length, line_ends, has_bare_line_feed, is_loose}
 use Rattle.clock_http.specs.Heads.{head_of}
 use Rattle.clock_http.specs.Decimals.{is_number}

@@ -3,7 +3,7 @@ ghost use Rattle.clock_scripts.specs.declared.fault.SimFault.TheVariants.{NoMemo
 
 use clock_connections::HubFault;
 use clock_device::NoMemory;
-use clock_http::Code;
+use clock_api::Code;
 use thiserror::Error;
 
 /// Why a rehearsal has no report: its first fault, in the order of the requests. The codes are

@@ -10,7 +10,7 @@ use Rattle.clock_house.specs.Command.{Command, put, close, other}
 use Rattle.clock_house.specs.History.{history, holding, round_to_close, public_state}
 use Rattle.clock_house.specs.House.{HouseFields, StandsFor}
 use Rattle.clock_house.specs.PublicState.{put_fault}
-use Rattle.clock_http.specs.declared.code.Code.TheVariants.{CutShort}
+use Rattle.clock_api.specs.declared.code.Code.TheVariants.{CutShort}
 use Rattle.clock_http.specs.Framing.{framing, incomplete, needs_more}
 use Rattle.clock_front.specs.Callers.{caller}
 use Rattle.clock_front.specs.Effects.{IsRightResponse, RespondsTo, close_effect, effect, effect_in, put_effect}

@@ -2,10 +2,10 @@
 use Rattle.std.proofs.Common.{◌≡◌, ℕ, List, Option, Some, None, ap, ◌∙◌, refl, codes}
 use Rattle.clock_terms.specs.Limits.{SetupFields}
 use Rattle.clock_http.specs.Framing.{Framing, Head, framing, whole}
-use Rattle.clock_http.specs.Routes.{page_of}
-use Rattle.clock_http.specs.declared.routes.Page.{Page}
-use Rattle.clock_http.specs.declared.routes.Page.TheVariants.{Status, Products, Sheet, Account, Bids, Slip, Close}
-use Rattle.clock_http.specs.declared.routes.Page.TheVariants.{Results}
+use Rattle.clock_api.specs.Routes.{page_of}
+use Rattle.clock_api.specs.declared.routes.Page.{Page}
+use Rattle.clock_api.specs.declared.routes.Page.TheVariants.{Status, Products, Sheet, Account, Bids, Slip, Close}
+use Rattle.clock_api.specs.declared.routes.Page.TheVariants.{Results}
 use Rattle.clock_house.specs.Command.{other}
 use Rattle.clock_front.specs.Callers.{caller}
 use Rattle.clock_front.specs.Effects.{effect_in}

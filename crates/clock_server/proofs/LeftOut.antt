@@ -8,8 +8,8 @@ use Rattle.clock_bids.specs.declared.sheet.Bid.{Bid}
 use Rattle.clock_order.specs.declared.ties.Tie.{Tie}
 use Rattle.clock_closing.specs.declared.closed_round.ClosedRound.{ClosedRound}
 use Rattle.clock_closing.specs.declared.fault.CloseFault.{CloseFault}
-use Rattle.clock_http.specs.Heads.{same_bytes}
-use Rattle.clock_http.specs.Replies.{Answer}
+use Rattle.clock_api.specs.Bytes.{same_bytes}
+use Rattle.clock_api.specs.Replies.{Answer}
 use Rattle.clock_house.specs.Command.{Command, put, close, other}
 use Rattle.clock_house.specs.History.{for_each_bidder, history, sheet_in_force}
 use Rattle.clock_house.specs.House.{HouseFields, StandsFor, closing_in, put_fault_in}

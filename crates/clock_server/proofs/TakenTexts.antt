@@ -1,9 +1,9 @@
 -- How an auction takes a text of a journal.
 use Rattle.std.proofs.Common.{◌≡◌, ◌≢◌, inl, inr, ℕ, List, Result, Err, sym, ap, ◌∙◌}
 use Rattle.clock_house.specs.House.{HouseFields}
-use Rattle.clock_http.specs.declared.code.Code.{Code}
-use Rattle.clock_http.specs.declared.code.Code.TheVariants.{Memory}
-use Rattle.clock_http.specs.Replies.{Answer}
+use Rattle.clock_api.specs.declared.code.Code.{Code}
+use Rattle.clock_api.specs.declared.code.Code.TheVariants.{Memory}
+use Rattle.clock_api.specs.Replies.{Answer}
 use Rattle.clock_front.specs.Effects.{RespondsTo}
 use Rattle.clock_front.specs.Fronts.{StandsForTexts}
 use Rattle.clock_front.specs.declared.front.response.Effect.TheVariants.{Nothing}

@@ -8,7 +8,7 @@ use Rattle.std.specs.Prelude.{◌≡◌, ◌⊎◌, ◌++◌, ℕ, List, [], ◌
 use Rattle.clock_terms.specs.Limits.{IsSetup, SetupFields}
 use Rattle.clock_house.specs.{History.{history}, Laws.{IsSound}}
 use Rattle.clock_http.specs.Framing.{Head, framing, whole}
-use Rattle.clock_http.specs.Replies.{Answer}
+use Rattle.clock_api.specs.Replies.{Answer}
 use Rattle.clock_device.specs.Reports.{Reading}
 use Rattle.clock_connections.specs.Arrivals.{HasArrived}
 use Rattle.clock_front.specs.Effects.{effect}

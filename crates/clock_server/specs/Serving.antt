@@ -12,7 +12,7 @@ use Rattle.std.specs.Prelude.{◌≡◌, ◌<◌, ◌≤◌, ◌⊎◌, ◌++◌
 use Rattle.std.specs.Prelude.{Option, Result, Ok, Err, reverse}
 use Rattle.clock_terms.specs.Limits.{SetupFields}
 use Rattle.clock_house.specs.House.{HouseFields}
-use Rattle.clock_http.specs.Replies.{Answer}
+use Rattle.clock_api.specs.Replies.{Answer}
 use Rattle.clock_device.specs.Reports.{Reading}
 use Rattle.clock_connections.specs.Arrivals.{HasArrived, HasNoMemory, IsNotRead}
 use Rattle.clock_front.specs.Effects.{effect}

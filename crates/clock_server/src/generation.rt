@@ -15,7 +15,8 @@ use crate::request_log::{Announced, Announcer};
 use crate::serving::{ServeFault, serve_all};
 use clock_device::Source;
 use clock_front::{Effect, Front};
-use clock_http::{Code, frame};
+use clock_api::Code;
+use clock_http::frame;
 use clock_journal::{
     Durable, EndedJournal, JournalFault, Machine, NewJournal, Record, Recovered, TakeError,
     law_of_mirrors,

@@ -7,23 +7,24 @@ use Rattle.clock_bids.specs.declared.sheet.Bid.{Bid}
 use Rattle.clock_house.specs.Command.{Command}
 use Rattle.clock_house.specs.History.{Auction, history, after_command}
 use Rattle.clock_closing.specs.declared.closed_round.ClosedRound.{ClosedRound}
-use Rattle.clock_http.specs.declared.code.Code.{Code}
-use Rattle.clock_http.specs.declared.code.Code.TheVariants.{LongHead, BadHead}
+use Rattle.clock_api.specs.declared.code.Code.{Code}
+use Rattle.clock_api.specs.declared.code.Code.TheVariants.{LongHead, BadHead}
 use Rattle.clock_http.specs.Scans.{head_length}
-use Rattle.clock_http.specs.Heads.{same_bytes, onto_first, lines_of, head_from, head_of}
+use Rattle.clock_http.specs.Heads.{onto_first, lines_of, head_from, head_of}
+use Rattle.clock_api.specs.Bytes.{same_bytes}
 use Rattle.clock_http.specs.Framing.{Head, Framing, framing, framed_at, framed_head, ended_head, or_bad_head}
 use Rattle.clock_http.specs.Framing.{length_read, and_length}
 use Rattle.clock_http.specs.Framing as framed_as
 use Rattle.clock_front.specs.Requests.{Ask, ask_of, ask_by_route, ask_of_page, request_of}
 use Rattle.clock_front.specs.Requests as asked
 use Rattle.clock_bodies.specs.Bodies.{put_body}
-use Rattle.clock_http.specs.Routes.{page_of, has_method}
+use Rattle.clock_api.specs.Routes.{page_of, has_method}
 use Rattle.clock_front.specs.Outcomes.{command_of}
 use Rattle.clock_front.specs.Callers.{caller}
 use Rattle.clock_front.specs.Fronts.{commands_of}
-use Rattle.clock_http.specs.declared.routes.Page.{Page}
-use Rattle.clock_http.specs.declared.routes.Page.TheVariants.{Status, Products, Sheet, Account, Bids, Slip, Close}
-use Rattle.clock_http.specs.declared.routes.Page.TheVariants.{Results}
+use Rattle.clock_api.specs.declared.routes.Page.{Page}
+use Rattle.clock_api.specs.declared.routes.Page.TheVariants.{Status, Products, Sheet, Account, Bids, Slip, Close}
+use Rattle.clock_api.specs.declared.routes.Page.TheVariants.{Results}
 use Rattle.clock_front.specs.declared.front.callers.Caller.{Caller}
 use Rattle.clock_front.specs.declared.front.callers.Caller.TheVariants.{Nobody, Operator, Bidder}
 use Rattle.clock_replays.specs.declared.replay.Script.{Script}

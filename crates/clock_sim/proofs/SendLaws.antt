@@ -9,7 +9,7 @@ use Rattle.clock_front.specs.Answered.{AnswersText}
 use Rattle.clock_front.specs.Fronts.{house_after, commands_of}
 use Rattle.clock_front.specs.Outcomes.{answer_of, outcome, command_of}
 use Rattle.clock_front.specs.inside.Answered.{AnswersAfter}
-use Rattle.clock_http.specs.Replies.{Answer}
+use Rattle.clock_api.specs.Replies.{Answer}
 use Rattle.clock_front.specs.Requests.{Request, request_of, ask_of}
 use Rattle.clock_front.specs.Hubs.{HubFields, IsFed, IsAnswered}
 use Rattle.clock_connections.specs.declared.connections.Conn.{Conn}

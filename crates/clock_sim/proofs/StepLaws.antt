@@ -10,9 +10,9 @@ use Rattle.clock_terms.specs.Faults.{◌>>=◌, IsRefusal}
 use Rattle.clock_house.specs.House.{HouseFields, state_in}
 use Rattle.clock_house.specs.History.{public_state}
 use Rattle.clock_closing.specs.declared.closed_round.ClosedRound.{ClosedRound}
-use Rattle.clock_http.specs.declared.code.Code.{Code}
-use Rattle.clock_http.specs.declared.code.Code.TheVariants.{Done, Memory}
-use Rattle.clock_http.specs.Replies.{Answer}
+use Rattle.clock_api.specs.declared.code.Code.{Code}
+use Rattle.clock_api.specs.declared.code.Code.TheVariants.{Done, Memory}
+use Rattle.clock_api.specs.Replies.{Answer}
 use Rattle.clock_front.specs.Fronts.{reply, StandsForTexts}
 use Rattle.clock_front.specs.inside.Answered.{AnswersAfter}
 use Rattle.clock_scripts.specs.declared.fault.SimFault.{SimFault}

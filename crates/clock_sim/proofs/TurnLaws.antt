@@ -12,8 +12,8 @@ use Rattle.clock_terms.specs.Faults.{◌>>=◌, IsRefusal}
 use Rattle.clock_house.specs.House.{HouseFields, state_in}
 use Rattle.clock_house.specs.History.{public_state}
 use Rattle.clock_closing.specs.declared.closed_round.ClosedRound.{ClosedRound}
-use Rattle.clock_http.specs.declared.code.Code.{Code}
-use Rattle.clock_http.specs.declared.code.Code.TheVariants.{Done}
+use Rattle.clock_api.specs.declared.code.Code.{Code}
+use Rattle.clock_api.specs.declared.code.Code.TheVariants.{Done}
 use Rattle.clock_front.specs.Fronts.{StandsForTexts}
 use Rattle.clock_front.specs.Hubs.{HubFields}
 use Rattle.clock_replays.specs.declared.replay.Script.{Script}

@@ -14,8 +14,8 @@ use Rattle.clock_terms.specs.Limits.{SetupFields}
 use Rattle.clock_terms.specs.Faults.{◌>>=◌}
 use Rattle.clock_house.specs.History.{history, public_state}
 use Rattle.clock_closing.specs.declared.closed_round.ClosedRound.{ClosedRound}
-use Rattle.clock_http.specs.declared.code.Code.{Code}
-use Rattle.clock_http.specs.declared.code.Code.TheVariants as codes
+use Rattle.clock_api.specs.declared.code.Code.{Code}
+use Rattle.clock_api.specs.declared.code.Code.TheVariants as codes
 use Rattle.clock_front.specs.Fronts.{commands_of, reply}
 use Rattle.clock_replays.specs.declared.replay.Script.{Script}
 use Rattle.clock_replays.specs.declared.replay.Closing.{Closing}

@@ -18,7 +18,8 @@ ghost use Rattle.clock_sim.specs.inside.Steps.{AreScriptsOf, IsGoing, IsResultBy
 use clock_connections::{Conn, HubFault};
 use clock_device::NoMemory;
 use clock_front::{Fed, Hub};
-use clock_http::{Code, Reply, law_decided_once, law_one_head};
+use clock_api::{Code, Reply};
+use clock_http::{law_decided_once, law_one_head};
 use clock_processor::Processor;
 use clock_replays::{Closing, Script};
 use clock_scripts::{BidPrefixes, SimFault, Written, write_close, write_put};

@@ -3,15 +3,15 @@ use Rattle.std.proofs.Common.{◌≡◌, ℕ, List, ◌++◌, Option, Some, None
 use Rattle.json.specs.Print.{escape}
 use Rattle.serde_json.specs.Written.{compact_text}
 use Rattle.serde_json.proofs.OnLiterals.{serde_json_on_literals}
-use Rattle.clock_http.specs.declared.code.Code.{Code}
-use Rattle.clock_http.specs.declared.code.Code.TheVariants.{Done, BadHead, BadLength, CutShort, BadJson, Token, Role}
-use Rattle.clock_http.specs.declared.code.Code.TheVariants.{NoPage, NoRound, Method, Ended}
-use Rattle.clock_http.specs.declared.code.Code.TheVariants.{WrongRound, LongBody, Shape, TooMany, UnknownProduct}
-use Rattle.clock_http.specs.declared.code.Code.TheVariants.{PriceRange, OverCap, PriceOrder}
-use Rattle.clock_http.specs.declared.code.Code.TheVariants.{MixedDirection, KeepPrice, OverActivity, Increment}
-use Rattle.clock_http.specs.declared.code.Code.TheVariants.{TieRange, TieRepeated, TooManyTies}
-use Rattle.clock_http.specs.declared.code.Code.TheVariants.{PriceLimit, LongHead, Coding, Memory}
-use Rattle.clock_http.specs.Codes.{code_text, status_of}
+use Rattle.clock_api.specs.declared.code.Code.{Code}
+use Rattle.clock_api.specs.declared.code.Code.TheVariants.{Done, BadHead, BadLength, CutShort, BadJson, Token, Role}
+use Rattle.clock_api.specs.declared.code.Code.TheVariants.{NoPage, NoRound, Method, Ended}
+use Rattle.clock_api.specs.declared.code.Code.TheVariants.{WrongRound, LongBody, Shape, TooMany, UnknownProduct}
+use Rattle.clock_api.specs.declared.code.Code.TheVariants.{PriceRange, OverCap, PriceOrder}
+use Rattle.clock_api.specs.declared.code.Code.TheVariants.{MixedDirection, KeepPrice, OverActivity, Increment}
+use Rattle.clock_api.specs.declared.code.Code.TheVariants.{TieRange, TieRepeated, TooManyTies}
+use Rattle.clock_api.specs.declared.code.Code.TheVariants.{PriceLimit, LongHead, Coding, Memory}
+use Rattle.clock_api.specs.Codes.{code_text, status_of}
 use Rattle.clock_views.specs.Refusals.{Shown}
 use Rattle.clock_views.specs.RefusalPage.{refusal_value, refusal_bytes}
 use Rattle.clock_views.specs.Values.{number_if}

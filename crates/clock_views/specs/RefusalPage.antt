@@ -3,7 +3,7 @@
 --     refusal_bytes shown      that page, byte for byte
 use Rattle.std.specs.Prelude.{ℕ, List, [], ◌∷◌, ◌++◌, codes, decimal}
 use Rattle.serde_json.specs.Data.{Data, string}
-use Rattle.clock_http.specs.Codes.{status_of, code_text}
+use Rattle.clock_api.specs.Codes.{status_of, code_text}
 use Rattle.clock_views.specs.Refusals.{Shown}
 use Rattle.clock_views.specs.Values.{whole, object_of, member_if, number_if}
 

@@ -16,7 +16,7 @@
 #![tactic(auto)]
 
 // The public surface: a name of another crate that callers of these pages need.
-pub use clock_http::Code;
+pub use clock_api::Code;
 
 mod capacities;
 mod pages;

@@ -26,7 +26,7 @@ use clock_bids::{Own, Sheet};
 use clock_closing::Slip;
 use clock_device::{Bounded, NoMemory, Text};
 use clock_house::House;
-use clock_http::text_with_room;
+use clock_api::text_with_room;
 use clock_posting::{Line, RoundSheet};
 use clock_terms::{Product, Setup, units_held};
 use std::alloc::Global;

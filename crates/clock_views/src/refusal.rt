@@ -14,7 +14,7 @@ use clock_bids::BidFault;
 use clock_closing::CloseFault;
 use clock_device::{NoMemory, Text};
 use clock_house::PutFault;
-use clock_http::{Code, text_with_room};
+use clock_api::{Code, text_with_room};
 use clock_order::TieFault;
 use std::alloc::Global;
 use std::marker::Model;

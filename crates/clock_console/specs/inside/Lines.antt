@@ -2,8 +2,8 @@
 --     spaced_number number, spaced_code code      a space and a number, or a code, if there is one
 --     text_of_words words      a word, and what follows it
 use Rattle.std.specs.Prelude.{ℕ, List, [], ◌++◌, Option, Some, None, codes, decimal}
-use Rattle.clock_http.specs.Codes.{code_text}
-use Rattle.clock_http.specs.declared.code.Code.{Code}
+use Rattle.clock_api.specs.Codes.{code_text}
+use Rattle.clock_api.specs.declared.code.Code.{Code}
 use Rattle.clock_console.specs.declared.fault.Words.{Words}
 
 abbrev pub spaced_number : Option ℕ → List ℕ

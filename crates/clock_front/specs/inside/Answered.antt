@@ -2,7 +2,7 @@
 --     AnswersAfter text answer old new      right or out of memory, after every list of requests
 use Rattle.std.specs.Prelude.{◌≡◌, ◌⊎◌, ℕ, List, ◌∷◌}
 use Rattle.clock_house.specs.House.{HouseFields}
-use Rattle.clock_http.specs.Replies.{Answer}
+use Rattle.clock_api.specs.Replies.{Answer}
 use Rattle.clock_front.specs.Fronts.{IsOutOfMemoryReply, StandsForTexts, reply}
 
 -- For every list of requests that the house stands for: the right reply after them, and it then

@@ -2,11 +2,11 @@
 --     change_asked page who head      none, a bidder's sheet, or a closing
 --     IsChangeFor who ask body change      what that says of the request
 use Rattle.std.specs.Prelude.{◌≡◌, ℕ, List, Option, Some, if◌then◌else◌, codes, true}
-use Rattle.clock_http.specs.Heads.{same_bytes}
+use Rattle.clock_api.specs.Bytes.{same_bytes}
 use Rattle.clock_http.specs.Framing.{Head}
-use Rattle.clock_http.specs.Routes.{has_method}
-use Rattle.clock_http.specs.declared.routes.Page.{Page}
-use Rattle.clock_http.specs.declared.routes.Page.TheVariants as pages
+use Rattle.clock_api.specs.Routes.{has_method}
+use Rattle.clock_api.specs.declared.routes.Page.{Page}
+use Rattle.clock_api.specs.declared.routes.Page.TheVariants as pages
 use Rattle.clock_bodies.specs.Bodies.{put_body}
 use Rattle.clock_bodies.specs.CloseBodies.{close_body}
 use Rattle.clock_front.specs.declared.front.callers.Caller.{Caller}

@@ -3,7 +3,7 @@
 --     numbers_of replies, answers_of replies      the connections of replies; the replies only
 --     kept replies one      the replies, followed by one more if there is one
 use Rattle.std.specs.Prelude.{ℕ, ◌++◌, List, [], ◌∷◌, map, Option, Some, None}
-use Rattle.clock_http.specs.Replies.{Answer}
+use Rattle.clock_api.specs.Replies.{Answer}
 use Rattle.clock_front.specs.declared.runs.EventReply.{EventReply}
 
 -- The number of each request's connection.

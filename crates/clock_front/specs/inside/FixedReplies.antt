@@ -4,10 +4,10 @@
 --     is_fixed code      a refusal for the head or the length of a request, or out of memory
 use Rattle.std.specs.Prelude.{Bool, true, false, not, ◌&&◌}
 use Rattle.clock_views.specs.Refusals.{bare, has_place, has_round, is_refusal}
-use Rattle.clock_http.specs.Replies.{Answer}
-use Rattle.clock_http.specs.declared.code.Code.{Code}
-use Rattle.clock_http.specs.declared.code.Code.TheVariants.{BadHead, BadLength, LongBody, LongHead}
-use Rattle.clock_http.specs.declared.code.Code.TheVariants.{Coding, Memory}
+use Rattle.clock_api.specs.Replies.{Answer}
+use Rattle.clock_api.specs.declared.code.Code.{Code}
+use Rattle.clock_api.specs.declared.code.Code.TheVariants.{BadHead, BadLength, LongBody, LongHead}
+use Rattle.clock_api.specs.declared.code.Code.TheVariants.{Coding, Memory}
 use Rattle.clock_front.specs.Outcomes.{refused, answer_of}
 
 -- The reply that refuses a request with only a code, and no details.

@@ -11,7 +11,7 @@ use Rattle.clock_posting.specs.declared.sheet.RoundSheet.{RoundSheet}
 use Rattle.clock_closing.specs.declared.closed_round.Slip.{Slip}
 use Rattle.clock_house.specs.PublicState.{PublicState, put_fault}
 use Rattle.clock_house.specs.View.{Seen, seen_state, seen_holding, seen_in_force, seen_round}
-use Rattle.clock_http.specs.declared.code.Code.TheVariants as code
+use Rattle.clock_api.specs.declared.code.Code.TheVariants as code
 use Rattle.clock_views.specs.Refusals.{bare}
 use Rattle.clock_views.specs.PublicPages.{status_value, products_value, sheet_value}
 use Rattle.clock_views.specs.BidderPages.{account_value, bids_value, slip_value}

@@ -6,7 +6,7 @@
 --     IsRightFor who ask old new response      the right reply and effect, and the house did it
 use Rattle.std.specs.Prelude.{◌≡◌, ℕ, true, Result, Ok, Err}
 use Rattle.clock_house.specs.House.{HouseFields, IsFollowedBy, StandsForTheSame}
-use Rattle.clock_http.specs.Replies.{Answer}
+use Rattle.clock_api.specs.Replies.{Answer}
 use Rattle.clock_front.specs.Effects.{effect_in}
 use Rattle.clock_front.specs.Requests.{Ask}
 use Rattle.clock_front.specs.Outcomes.{answer_of, command_of, outcome}

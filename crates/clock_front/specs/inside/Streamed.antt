@@ -3,7 +3,7 @@
 use Rattle.std.specs.Prelude.{Option, Some, None}
 use Rattle.clock_device.specs.Reports.{Reading}
 use Rattle.clock_house.specs.House.{HouseFields}
-use Rattle.clock_http.specs.Replies.{Answer}
+use Rattle.clock_api.specs.Replies.{Answer}
 use Rattle.clock_front.specs.Streamed.{IsAnswerTo, IsLeftUnread}
 
 -- The answer to the request that was read; or none, if no request could be read.

@@ -3,7 +3,8 @@
 
 ghost use Rattle.std.specs.Prelude.{◌≡◌, ◌≢◌, ◌<◌, ℕ, List, Ok, Err, length};
 ghost use Rattle.std.specs.Prelude.{IfOk, IfErr, OnOk, OnErr};
-ghost use Rattle.clock_http.specs.{Routes.{page_of}, Shown.{shown_head}};
+ghost use Rattle.clock_api.specs.Routes.{page_of};
+ghost use Rattle.clock_http.specs.Shown.{shown_head};
 ghost use Rattle.clock_house.specs.House.{StandsForTheSame};
 ghost use Rattle.clock_views.specs.Refusals.{bare};
 ghost use Rattle.clock_bodies.specs.{Bodies.{put_body}, CloseBodies.{close_body, in_version}};
@@ -26,7 +27,8 @@ use crate::front::response::{Effect, Response, unchanged};
 use clock_bodies::{BodyFault, CloseBody, is_of_version, read_close, read_put};
 use clock_closing::CloseFault;
 use clock_house::{House, PutFault};
-use clock_http::{Code, Head, NoRoom, Page, Reply, last_segment};
+use clock_api::{Code, NoRoom, Page, Reply, last_segment};
+use clock_http::Head;
 use clock_processor::Processor;
 use clock_terms::Setup;
 use clock_views::Refusal;

@@ -1,7 +1,8 @@
 //! Who sent a request, by its token.
 ghost use Rattle.std.specs.Prelude.{◌≡◌, ℕ, List, [], length, IfOk, OnOk, if◌then◌else◌};
 ghost use Rattle.clock_terms.specs.Limits.{SetupFields};
-ghost use Rattle.clock_http.specs.{Shown.{shown_bytes}, Heads.{same_bytes}};
+ghost use Rattle.clock_http.specs.Shown.{shown_bytes};
+ghost use Rattle.clock_api.specs.Bytes.{same_bytes};
 ghost use Rattle.clock_front.specs.{Callers.{caller as caller_with}, inside.Callers.{IsKnown}};
 ghost use Rattle.clock_front.specs.inside.TokenTable.{found, IsTableOf};
 

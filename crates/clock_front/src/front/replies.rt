@@ -18,7 +18,8 @@ ghost use Rattle.clock_front.specs.Requests as asked;
 
 use clock_device::Text;
 use clock_house::House;
-use clock_http::{Code, HEADROOM, NoRoom, Page, Reply, plain_number, text_with_room};
+use clock_api::{Code, HEADROOM, NoRoom, Page, Reply, text_with_room};
+use clock_http::plain_number;
 use clock_views::{
     Refusal, headed_accepted, headed_account, headed_bids, headed_closed, headed_refusal,
     headed_results, headed_sheet, headed_slip, headed_status,

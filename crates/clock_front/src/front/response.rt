@@ -1,6 +1,6 @@
 ghost use Rattle.std.specs.Prelude.{◌≡◌};
 
-use clock_http::Reply;
+use clock_api::Reply;
 
 /// What a request changed in the auction: nothing, its bidder's sheet in force, or the round of
 /// this number, which it closed.

@@ -5,7 +5,7 @@
 --     shown_read text result      a head with the length of its body, or why it is refused
 use Rattle.std.specs.Prelude.{◌≡◌, ℕ, List, [], ◌∷◌, codes, length, Result, Ok, Err}
 use Rattle.httparse.specs.Spans.{span_bytes, IsWithin}
-use Rattle.clock_http.specs.declared.code.Code.{Code}
+use Rattle.clock_api.specs.declared.code.Code.{Code}
 use Rattle.clock_http.specs.declared.head.EndedHead.{EndedHead}
 use Rattle.clock_http.specs.declared.headers.HeaderLines.{HeaderLines}
 use Rattle.clock_http.specs.declared.headers.Fields.{Fields}

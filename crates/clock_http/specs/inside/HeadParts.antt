@@ -5,7 +5,7 @@
 use Rattle.std.specs.Prelude.{ℕ, List, take, ◌==◌, Option, Some, None, Result}
 use Rattle.std.specs.List.{before_first}
 use Rattle.http_uri.specs.ByteClasses.{question_mark}
-use Rattle.clock_http.specs.declared.code.Code.{Code}
+use Rattle.clock_api.specs.declared.code.Code.{Code}
 use Rattle.clock_http.specs.Framing.{Head, ended_head, length_read, ok_head}
 
 -- the path is the target up to the first question mark

@@ -1,7 +1,7 @@
 //! The codes of replies, each with its status, its reason, and its text.
 
 use crate::comparing::assert_is_at;
-use clock_http::Code;
+use clock_api::Code;
 use std::process::Abort;
 
 /// A status and its reason, and the codes that have these, each with its text in pages.

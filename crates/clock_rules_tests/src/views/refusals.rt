@@ -4,7 +4,7 @@ use crate::comparing::assert_has;
 use clock_bids::BidFault;
 use clock_device::Text;
 use clock_house::{CloseFault, PutFault};
-use clock_http::Code;
+use clock_api::Code;
 use clock_order::TieFault;
 use clock_views::{Refusal, headed_refusal, refusal_page};
 use std::alloc::Global;

@@ -7,7 +7,7 @@
 --     IsReported old new changed      the closed round, if any, was reported
 use Rattle.std.specs.Prelude.{◌≡◌, ◌⊎◌, ℕ, List, [], ◌∷◌, Option, Result, Ok, Err}
 use Rattle.clock_house.specs.House.{HouseFields}
-use Rattle.clock_http.specs.Replies.{Answer}
+use Rattle.clock_api.specs.Replies.{Answer}
 use Rattle.clock_connections.specs.Arrivals.{HasArrived}
 use Rattle.clock_front.specs.Effects.{RespondsTo}
 use Rattle.clock_front.specs.declared.front.response.Effect.{Effect}

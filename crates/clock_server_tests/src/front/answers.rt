@@ -8,7 +8,7 @@ use clock_fixtures::{
     ACCEPTED, ACTIVITY_LIMIT, AT_THE_HIGHEST, GRANULES_AND_INCREMENTS, NO_SHEET, ONE_PRODUCT, PUT,
 };
 use clock_front::{Front, Replies, Reply, run};
-use clock_http::Code;
+use clock_api::Code;
 use clock_processor::Plain;
 use std::alloc::Global;
 use std::process::Abort;

@@ -6,7 +6,7 @@ use crate::front::example::on_one_product;
 use clock_device::{ListSink, Source, Stop};
 use clock_fixtures::LONG_HEAD;
 use clock_front::{Front, StreamFault, serve_stream};
-use clock_http::Code;
+use clock_api::Code;
 use clock_processor::Plain;
 use std::alloc::Global;
 use std::process::Abort;

@@ -5,7 +5,8 @@ ghost use Rattle.clock_http.specs.Shown.{Knows};
 use crate::comparing::{assert_is_at, made_at};
 use crate::front::example::on_one_product;
 use clock_front::{Framing, Front, frame};
-use clock_http::{Code, Progress};
+use clock_api::Code;
+use clock_http::Progress;
 use clock_processor::Plain;
 use std::alloc::Global;
 use std::process::Abort;
@@ -150,7 +151,7 @@ fn answer_in_two(
     if progress.needs_more() {
         return None;
     }
-    let reply = front.answer_framed(progress.framing(text));
+    let reply = front.respond(progress.framing(text)).reply;
     String::from_utf8_lossy(alloc, reply.bytes()).ok()
 }
 

@@ -1,7 +1,7 @@
 //! The page of a path.
 use crate::comparing::{assert_is_at, made_at};
 use crate::front::example::on_one_product;
-use clock_http::Code;
+use clock_api::Code;
 use std::alloc::Global;
 use std::process::Abort;
 

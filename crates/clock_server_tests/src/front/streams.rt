@@ -7,7 +7,7 @@ use crate::front::example::on_one_product;
 use clock_device::{ListSink, ListSource, Stop};
 use clock_fixtures::{ACCEPTED, BIDS_OF_X, NO_SHEET, PUT, SHEET};
 use clock_front::{Front, StreamFault, serve_stream};
-use clock_http::Code;
+use clock_api::Code;
 use clock_processor::Plain;
 use std::alloc::Global;
 use std::process::Abort;

@@ -1,7 +1,7 @@
 -- The space and then the code are written.
 use Rattle.std.proofs.Common.{codes}
 use Rattle.clock_device.proofs.Streams.{both_written, first_failed}
-use Rattle.clock_http.specs.Codes.{code_text}
+use Rattle.clock_api.specs.Codes.{code_text}
 use Rattle.clock_console.proofs.fault.write_spaced_code.Goals as goal
 
 pub returns-in_err-write_all-clause-bytes : goal.returns-in_err-write_all-clause-bytes

@@ -7,7 +7,7 @@ use Rattle.httparse.specs.Grammar.{RequestHead}
 use Rattle.httparse.specs.Outcome.{IfComplete, IsCompleteAnd}
 use Rattle.httparse.specs.Spans.{IsRequestAt, IsRequestOf, span_bytes}
 use Rattle.std.specs.Result.{IsErrAnd}
-use Rattle.clock_http.specs.declared.code.Code.{Code}
+use Rattle.clock_api.specs.declared.code.Code.{Code}
 use Rattle.clock_http.specs.declared.head.EndedHead.{EndedHead}
 use Rattle.clock_http.specs.Heads.{head_of}
 use Rattle.clock_http.specs.inside.HeadFields.{shown_read}

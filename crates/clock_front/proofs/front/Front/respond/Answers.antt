@@ -1,7 +1,7 @@
 -- Proves the code of a refused or incomplete request, from the right response to it.
 use Rattle.std.proofs.Common.{ap, ◌∙◌, inl, sym}
 use Rattle.clock_http.specs.Framing.{is_incomplete}
-use Rattle.clock_http.specs.Replies.{Answer}
+use Rattle.clock_api.specs.Replies.{Answer}
 use Rattle.clock_front.specs.Callers.{caller}
 use Rattle.clock_front.specs.Requests.{request_of}
 use Rattle.clock_front.proofs.FrontLaws.{refused_code, answered_cut_short}

@@ -4,7 +4,7 @@ use Rattle.std.specs.Prelude.{IfErr, IfOk}
 use Rattle.clock_terms.specs.Limits.{IsSetup}
 use Rattle.clock_house.specs.House.{HouseFields}
 use Rattle.clock_views.specs.Refusals.{Shown}
-use Rattle.clock_http.specs.declared.code.Code.TheVariants.{CutShort}
+use Rattle.clock_api.specs.declared.code.Code.TheVariants.{CutShort}
 use Rattle.clock_http.specs.Framing.{incomplete, refusal}
 use Rattle.clock_http.specs.Shown.{shown_framing, shown_head}
 use Rattle.clock_front.specs.Callers.{caller}

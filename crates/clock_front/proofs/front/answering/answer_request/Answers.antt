@@ -1,9 +1,9 @@
 -- Proves the response to a request, by the change that it asks for: a sheet, a closing, or none.
 use Rattle.std.proofs.Common.{◌≡◌, false, Option, Ok, Err, length, refl, ap, subst, ◌∙◌}
 use Rattle.std.specs.Prelude.{IfOk}
-use Rattle.clock_http.specs.Routes.{page_of}
+use Rattle.clock_api.specs.Routes.{page_of}
 use Rattle.clock_http.specs.Shown.{shown_head}
-use Rattle.clock_http.specs.declared.routes.Page.{Page}
+use Rattle.clock_api.specs.declared.routes.Page.{Page}
 use Rattle.clock_front.specs.Outcomes.{outcome}
 use Rattle.clock_front.specs.Requests.{ask_by_route}
 use Rattle.clock_front.specs.Rooms.{asks_for_page}

@@ -1,9 +1,9 @@
 -- Proves the reply to a request that asks for no change, by the page that its path names.
 use Rattle.std.proofs.Common.{List, ℕ, Option, length, sym, subst, ◌∙◌}
-use Rattle.clock_http.specs.Routes.{last_segment}
+use Rattle.clock_api.specs.Routes.{last_segment}
 use Rattle.clock_http.specs.Shown.{shown_head}
-use Rattle.clock_http.specs.declared.routes.Page.{Page}
-use Rattle.clock_http.specs.declared.routes.Page.TheVariants as pages
+use Rattle.clock_api.specs.declared.routes.Page.{Page}
+use Rattle.clock_api.specs.declared.routes.Page.TheVariants as pages
 use Rattle.clock_front.specs.Requests as asked
 use Rattle.clock_front.specs.declared.front.callers.Caller.{Caller}
 use Rattle.clock_front.specs.declared.front.callers.Caller.TheVariants.{Nobody, Bidder}

@@ -1,6 +1,6 @@
 -- Proves what the table finds after one more token.
 use Rattle.std.proofs.Common.{List, ℕ, cond, ap, ◌∙◌}
-use Rattle.clock_http.specs.Heads.{same_bytes}
+use Rattle.clock_api.specs.Bytes.{same_bytes}
 use Rattle.clock_front.specs.inside.TokenTable.{found}
 use Rattle.clock_front.proofs.TokenLaws.{Entries, found-insert}
 use Rattle.clock_front.proofs.front.callers.add.Goals as goal

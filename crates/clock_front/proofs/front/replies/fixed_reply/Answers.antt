@@ -1,7 +1,7 @@
 -- Proves that each constant reply has the bytes of the refusal with its code, by computing these.
 use Rattle.std.proofs.Common.{◌≡◌, List, ℕ, ap, sym, ◌∙◌}
 use Rattle.std.specs.Fmt.{digits}
-use Rattle.clock_http.specs.Replies.{Answer, reply_bytes}
+use Rattle.clock_api.specs.Replies.{Answer, reply_bytes}
 use Rattle.clock_front.specs.inside.FixedReplies.{refusal_of}
 use Rattle.clock_front.proofs.FrontLaws.{constant_bytes, constant_reply}
 use Rattle.clock_front.proofs.front.replies.fixed_reply.Goals as goal

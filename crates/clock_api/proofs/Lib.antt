@@ -1,0 +1,3 @@
+mod RoutePages
+mod RouteLaws
+mod Examples

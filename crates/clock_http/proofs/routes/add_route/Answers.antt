@@ -1,6 +1,0 @@
--- An insert that succeeds sorts the route in.
-use Rattle.clock_http.proofs.RouteLaws.{added}
-use Rattle.clock_http.proofs.routes.add_route.Goals as goal
-
-pub returns : goal.returns
-returns c = added _ _ _ _ _ c.in-Ok.ensures
