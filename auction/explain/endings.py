@@ -27,7 +27,7 @@ ENDINGS = {
     ),
     "output": Ending("a line could not be printed", "check where standard output goes"),
     "memory": Ending(
-        "out of memory: at each start, if the journal is too long for LimitAS",
+        "out of memory: less was free, or LimitAS is lower, than a closing or a start needs",
         "start again, or raise LimitAS",
     ),
     "journal": Ending(
