@@ -3,8 +3,8 @@ use Rattle.std.specs.Prelude.{◌≡◌, List, [], ◌∷◌, ◌++◌, Some, No
 use Rattle.std.specs.Fmt.{digits}
 use Rattle.clock_api.specs.declared.code.Code.TheVariants.{Done, Method, Token}
 use Rattle.clock_api.specs.declared.routes.Page.{Page}
-use Rattle.clock_api.specs.declared.routes.Page.TheVariants.{Status, Products, Sheet, Account, Bids, Slip, Close}
-use Rattle.clock_api.specs.declared.routes.Page.TheVariants.{Results}
+use Rattle.clock_api.specs.declared.routes.Page.TheVariants.{Status, Products, RoundResults, Account, Bids}
+use Rattle.clock_api.specs.declared.routes.Page.TheVariants.{BidderResults, Close, Results}
 use Rattle.clock_api.specs.Replies.{reply_bytes}
 use Rattle.matchit.specs.Route.{scan}
 use Rattle.matchit.specs.Seek.{seek, param_step}
@@ -12,7 +12,7 @@ use Rattle.clock_api.specs.Routes.{has_method, last_segment}
 use Rattle.clock_api.specs.inside.Routing.{page_at, table}
 
 pages : List Page
-pages = Status ∷ Products ∷ Sheet ∷ Account ∷ Bids ∷ Slip ∷ Close ∷ Results ∷ []
+pages = Status ∷ Products ∷ RoundResults ∷ Account ∷ Bids ∷ BidderResults ∷ Close ∷ Results ∷ []
 
 all_pages_but_one_are_got : map (λ page. has_method page (codes "GET")) pages
     ≡ true ∷ true ∷ true ∷ true ∷ true ∷ true ∷ false ∷ true ∷ []

@@ -13,17 +13,18 @@ use Rattle.std.specs.List.{after_last, list_any, starts_with}
 use Rattle.std.specs.Str.{is_utf8}
 use Rattle.clock_api.specs.Bytes.{same_bytes}
 use Rattle.clock_api.specs.declared.routes.Page.{Page}
-use Rattle.clock_api.specs.declared.routes.Page.TheVariants.{Status, Products, Sheet, Account}
-use Rattle.clock_api.specs.declared.routes.Page.TheVariants.{Bids, Slip, Close, Results}
+use Rattle.clock_api.specs.declared.routes.Page.TheVariants.{Status, Products, Account, Bids, Close}
+use Rattle.clock_api.specs.declared.routes.Page.TheVariants.{RoundResults, BidderResults, Results}
 
 abbrev pub last_segment : List ℕ → List ℕ
 last_segment path = after_last (λ b. b == 47) path
 
 -- the texts of the paths, with their pages; one more segment follows a text that ends with a slash
 abbrev pub paths : List (List ℕ × Page)
-paths = (codes "/v1/close", Close) ∷ (codes "/v1/me/bids", Bids) ∷ (codes "/v1/me/rounds/", Slip)
-    ∷ (codes "/v1/me", Account) ∷ (codes "/v1/products", Products) ∷ (codes "/v1/results", Results)
-    ∷ (codes "/v1/rounds/", Sheet) ∷ (codes "/v1/status", Status) ∷ []
+paths = (codes "/v1/close", Close) ∷ (codes "/v1/me/bids", Bids)
+    ∷ (codes "/v1/me/rounds/", BidderResults) ∷ (codes "/v1/me", Account)
+    ∷ (codes "/v1/products", Products) ∷ (codes "/v1/results", Results)
+    ∷ (codes "/v1/rounds/", RoundResults) ∷ (codes "/v1/status", Status) ∷ []
 
 -- one segment, not empty
 abbrev pub is_segment : List ℕ → Bool
@@ -42,10 +43,10 @@ page_of path = if is_utf8 path
 abbrev pub methods : Page → List (List ℕ)
 methods Status = codes "GET" ∷ []
 methods Products = codes "GET" ∷ []
-methods Sheet = codes "GET" ∷ []
+methods RoundResults = codes "GET" ∷ []
 methods Account = codes "GET" ∷ []
 methods Bids = codes "GET" ∷ codes "PUT" ∷ []
-methods Slip = codes "GET" ∷ []
+methods BidderResults = codes "GET" ∷ []
 methods Close = codes "POST" ∷ []
 methods Results = codes "GET" ∷ []
 

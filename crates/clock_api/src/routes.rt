@@ -16,13 +16,13 @@ pub enum Page {
     /// The public set-up.
     Products,
     /// The round results of a closed round.
-    Sheet,
+    RoundResults,
     /// The state of the bidder whose token the request has.
     Account,
     /// The sheet in force of a bidder, and where it submits a sheet.
     Bids,
     /// The bidder results of a closed round.
-    Slip,
+    BidderResults,
     /// Where the operator closes a round.
     Close,
     /// The processed demands of all bidders, for the operator.
@@ -46,10 +46,10 @@ fn add_routes(router: &mut Router<Page>) -> Result<(), NoMemory>
 {
     add_route(router, "/v1/status", Page::Status)?;
     add_route(router, "/v1/products", Page::Products)?;
-    add_route(router, "/v1/rounds/{n}", Page::Sheet)?;
+    add_route(router, "/v1/rounds/{n}", Page::RoundResults)?;
     add_route(router, "/v1/me", Page::Account)?;
     add_route(router, "/v1/me/bids", Page::Bids)?;
-    add_route(router, "/v1/me/rounds/{n}", Page::Slip)?;
+    add_route(router, "/v1/me/rounds/{n}", Page::BidderResults)?;
     add_route(router, "/v1/close", Page::Close)?;
     add_route(router, "/v1/results", Page::Results)?;
     Ok(())

@@ -8,8 +8,8 @@ ghost use Rattle.clock_console.specs.FaultLines.{script_words, setup_words};
 ghost use Rattle.clock_console.specs.declared.fault.Fault.TheVariants.{Memory};
 ghost use Rattle.clock_console.specs.inside.Lines.{spaced_number, spaced_code, text_of_words};
 
-use clock_device::{Failed, NoMemory, Sink, write_all, write_number};
 use clock_api::Code;
+use clock_device::{Failed, NoMemory, Sink, write_all, write_number};
 use clock_journal::{JournalFault, LevelFault};
 use clock_replays::ScriptFault;
 use clock_scripts::SimFault;

@@ -15,7 +15,7 @@ use Rattle.clock_house.proofs.Numbers.{reverse_cons}
 use Rattle.clock_http.specs.Decimals.{plain_number}
 use Rattle.clock_api.specs.declared.code.Code.TheVariants.{Token}
 use Rattle.clock_views.specs.Refusals.{bare}
-use Rattle.clock_views.specs.PublicPages.{status_value, products_value, sheet_value}
+use Rattle.clock_views.specs.PublicPages.{status_value, products_value, round_results_value}
 use Rattle.clock_front.specs.declared.front.callers.Caller.TheVariants.{Nobody}
 use Rattle.clock_front.specs.Requests.{Ask, request_of}
 use Rattle.clock_front.specs.Requests as asked
@@ -35,8 +35,9 @@ public_outcome setup sheets (asked.no_method page) = not_allowed page
 public_outcome setup sheets asked.status =
     done (status_value setup (standing_by setup.products sheets).round (standing_by setup.products sheets).ended)
 public_outcome setup sheets asked.products = done (products_value setup)
-public_outcome setup sheets (asked.sheet segment) =
-    page_or_no_round (option_map (sheet_value setup) (option_and_then (λ n. round_at n sheets) (plain_number segment)))
+public_outcome setup sheets (asked.round_results segment) =
+    page_or_no_round (option_map (round_results_value setup) (option_and_then (λ n. round_at n sheets)
+        (plain_number segment)))
 public_outcome setup sheets _ = refused (bare Token)
 
 abbrev sheet_of : ClosedRound → RoundSheet
@@ -62,16 +63,17 @@ sheet_shown (suc n) closed =
     sym (slice_get-map sheet_of (reverse closed) n) ∙ ap (λ sheets. slice_get sheets n) (reversed closed)
 
 page_of_sheet : (setup : PublicSetup) (found : Option ClosedRound) → option_map
-    (λ closed. sheet_value setup closed.sheet) found ≡ option_map (sheet_value setup) (option_map sheet_of found)
+    (λ closed. round_results_value setup closed.sheet) found ≡ option_map (round_results_value setup)
+    (option_map sheet_of found)
 page_of_sheet setup None = refl
 page_of_sheet setup (Some closed) = refl
 
 named_sheet : (setup : PublicSetup) (closed : List ClosedRound) (named : Option ℕ) →
-    option_map (λ closed. sheet_value setup closed.sheet) (option_and_then (λ n. round_at n closed) named)
-    ≡ option_map (sheet_value setup) (option_and_then (λ n. round_at n (map sheet_of closed)) named)
+    option_map (λ closed. round_results_value setup closed.sheet) (option_and_then (λ n. round_at n closed) named)
+    ≡ option_map (round_results_value setup) (option_and_then (λ n. round_at n (map sheet_of closed)) named)
 named_sheet setup closed None = refl
 named_sheet setup closed (Some n) =
-    page_of_sheet setup (round_at n closed) ∙ ap (option_map (sheet_value setup)) (sheet_shown n closed)
+    page_of_sheet setup (round_at n closed) ∙ ap (option_map (round_results_value setup)) (sheet_shown n closed)
 
 -- ---- replies to requests with no valid token
 
@@ -79,7 +81,7 @@ reported_of_public : (setup : SetupFields) (commands : List Command) (ask : Ask)
     Nobody ask ≡ public_outcome (public_setup setup) (map sheet_of (history setup commands).closed) ask
 reported_of_public setup commands asked.status = ap (λ now. done (status_value
     (public_setup setup) now.round now.ended)) (standing_shown setup.products (history setup commands).closed)
-reported_of_public setup commands (asked.sheet segment) =
+reported_of_public setup commands (asked.round_results segment) =
     ap page_or_no_round (named_sheet (public_setup setup) (history setup commands).closed (plain_number segment))
 reported_of_public setup commands _ = refl
 

@@ -23,8 +23,8 @@ use Rattle.clock_house.specs.View.{Seen, own_put, view_of, seen_of, seen_closing
 use Rattle.clock_house.specs.View.{seen_in_force, seen_round, shown_to, IsSeen}
 use Rattle.clock_house.specs.View as typed
 use Rattle.clock_house.proofs.Isolation.{seen}
-use Rattle.clock_views.specs.PublicPages.{sheet_value}
-use Rattle.clock_views.specs.BidderPages.{bids_value, slip_value}
+use Rattle.clock_views.specs.PublicPages.{round_results_value}
+use Rattle.clock_views.specs.BidderPages.{bids_value, bidder_results_value}
 use Rattle.clock_bodies.specs.declared.put_body.PutBody.{PutBody}
 use Rattle.clock_bodies.specs.declared.close_body.CloseBody.{CloseBody}
 use Rattle.clock_bodies.specs.declared.body.BodyFault.{BodyFault}
@@ -116,26 +116,29 @@ Rounds = ℕ → Option (RoundSheet × Slip)
 
 module _ (setup : PublicSetup) (row : Bidder) (standing_now : PublicState) (held : Holding)
     (in_force : Option (List Bid)) (one two : Rounds) (alike : (n : ℕ) → one n ≡ two n) where
-  same_slip : (named : Option ℕ) → page_or_no_round (option_map
-      (λ (one_seen : RoundSheet × Slip). slip_value one_seen.1) (option_and_then one named)) ≡ page_or_no_round
-      (option_map (λ (one_seen : RoundSheet × Slip). slip_value one_seen.1) (option_and_then two named))
-  same_slip None = refl
-  same_slip (Some n) = ap (λ found.
-      page_or_no_round (option_map (λ (one_seen : RoundSheet × Slip). slip_value one_seen.1) found)) (alike n)
+  same_bidder_results : (named : Option ℕ) → page_or_no_round (option_map
+      (λ (one_seen : RoundSheet × Slip). bidder_results_value one_seen.1) (option_and_then one named))
+      ≡ page_or_no_round
+      (option_map (λ (one_seen : RoundSheet × Slip). bidder_results_value one_seen.1) (option_and_then two named))
+  same_bidder_results None = refl
+  same_bidder_results (Some n) = ap (λ found.
+      page_or_no_round (option_map (λ (one_seen : RoundSheet × Slip). bidder_results_value one_seen.1) found)) (alike n)
 
-  same_sheet : (named : Option ℕ) → page_or_no_round (option_map
-      (λ (one_seen : RoundSheet × Slip). sheet_value setup one_seen.0) (option_and_then one named)) ≡ page_or_no_round
-      (option_map (λ (one_seen : RoundSheet × Slip). sheet_value setup one_seen.0) (option_and_then two named))
-  same_sheet None = refl
-  same_sheet (Some n) = ap (λ found.
-      page_or_no_round (option_map (λ (one_seen : RoundSheet × Slip). sheet_value setup one_seen.0) found)) (alike n)
+  same_round_results : (named : Option ℕ) → page_or_no_round (option_map
+      (λ (one_seen : RoundSheet × Slip). round_results_value setup one_seen.0) (option_and_then one named))
+      ≡ page_or_no_round
+      (option_map (λ (one_seen : RoundSheet × Slip). round_results_value setup one_seen.0) (option_and_then two named))
+  same_round_results None = refl
+  same_round_results (Some n) = ap (λ found.
+      page_or_no_round (option_map (λ (one_seen : RoundSheet × Slip). round_results_value setup one_seen.0) found))
+          (alike n)
 
   pub same_rounds : (asked : Ask) → known_outcome setup row
       (record { public_state = standing_now; holding = held; in_force = in_force; rounds = one }) asked ≡ known_outcome
       setup row (record { public_state = standing_now; holding = held; in_force = in_force; rounds = two }) asked
   unfolding known_outcome
-  same_rounds (ask.slip segment) = same_slip (plain_number segment)
-  same_rounds (ask.sheet segment) = same_sheet (plain_number segment)
+  same_rounds (ask.bidder_results segment) = same_bidder_results (plain_number segment)
+  same_rounds (ask.round_results segment) = same_round_results (plain_number segment)
   same_rounds (ask.put (Ok body)) = refl
   same_rounds _ = refl
 
@@ -150,28 +153,31 @@ module _ (setup : SetupFields) (b : ℕ) (lt : b < length setup.bidders) (comman
     rounds = λ n. option_map (shown_to b) (round_at n (history setup commands).closed);
   }
 
-  slip_reported : (found : Option ClosedRound) → option_map (λ closed. slip_value (slip_of b closed)) found
-      ≡ option_map (λ (one_seen : RoundSheet × Slip). slip_value one_seen.1) (option_map (shown_to b) found)
+  slip_reported : (found : Option ClosedRound) → option_map (λ closed. bidder_results_value (slip_of b closed)) found
+      ≡ option_map (λ (one_seen : RoundSheet × Slip). bidder_results_value one_seen.1) (option_map (shown_to b) found)
   slip_reported None = refl
   slip_reported (Some closed) = refl
 
   sheet_reported : (found : Option ClosedRound) →
-      option_map (λ closed. sheet_value (public_setup setup) closed.sheet) found ≡ option_map
-      (λ (one_seen : RoundSheet × Slip). sheet_value (public_setup setup) one_seen.0) (option_map (shown_to b) found)
+      option_map (λ closed. round_results_value (public_setup setup) closed.sheet) found ≡ option_map
+      (λ (one_seen : RoundSheet × Slip). round_results_value (public_setup setup) one_seen.0) (option_map
+      (shown_to b) found)
   sheet_reported None = refl
   sheet_reported (Some closed) = refl
 
-  named_slip : (named : Option ℕ) → option_map (λ closed. slip_value (slip_of b closed))
+  named_bidder_results : (named : Option ℕ) → option_map (λ closed. bidder_results_value (slip_of b closed))
       (option_and_then (λ n. round_at n (history setup commands).closed) named)
-      ≡ option_map (λ (one_seen : RoundSheet × Slip). slip_value one_seen.1) (option_and_then known_in.rounds named)
-  named_slip None = refl
-  named_slip (Some n) = slip_reported (round_at n (history setup commands).closed)
+      ≡ option_map (λ (one_seen : RoundSheet × Slip). bidder_results_value one_seen.1)
+      (option_and_then known_in.rounds named)
+  named_bidder_results None = refl
+  named_bidder_results (Some n) = slip_reported (round_at n (history setup commands).closed)
 
-  named_sheet : (named : Option ℕ) → option_map (λ closed. sheet_value (public_setup setup) closed.sheet)
+  named_round_results : (named : Option ℕ) → option_map (λ closed. round_results_value
+      (public_setup setup) closed.sheet)
       (option_and_then (λ n. round_at n (history setup commands).closed) named) ≡ option_map (λ (one_seen : RoundSheet
-      × Slip). sheet_value (public_setup setup) one_seen.0) (option_and_then known_in.rounds named)
-  named_sheet None = refl
-  named_sheet (Some n) = sheet_reported (round_at n (history setup commands).closed)
+      × Slip). round_results_value (public_setup setup) one_seen.0) (option_and_then known_in.rounds named)
+  named_round_results None = refl
+  named_round_results (Some n) = sheet_reported (round_at n (history setup commands).closed)
 
   own_sheet : slice_index_or (for_each_bidder setup (sheet_in_force setup (history setup commands))) b None
       ≡ sheet_in_force setup (history setup commands) b
@@ -181,8 +187,8 @@ module _ (setup : SetupFields) (b : ℕ) (lt : b < length setup.bidders) (comman
   pub reported_of_known : (asked : Ask) → outcome (house_after setup commands) (who.Bidder b) asked ≡ known_outcome
       (public_setup setup) (bidder_at setup b) known_in asked
   unfolding known_outcome
-  reported_of_known (ask.slip segment) = ap page_or_no_round (named_slip (plain_number segment))
-  reported_of_known (ask.sheet segment) = ap page_or_no_round (named_sheet (plain_number segment))
+  reported_of_known (ask.bidder_results segment) = ap page_or_no_round (named_bidder_results (plain_number segment))
+  reported_of_known (ask.round_results segment) = ap page_or_no_round (named_round_results (plain_number segment))
   reported_of_known ask.bids = ap (λ sheet.
       done (bids_value (public_state setup.products (history setup commands).closed).round sheet)) own_sheet
   reported_of_known (ask.put (Ok body)) = refl

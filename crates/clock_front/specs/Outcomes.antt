@@ -20,8 +20,9 @@ use Rattle.clock_api.specs.declared.code.Code.{Code}
 use Rattle.clock_api.specs.declared.code.Code.TheVariants as code
 use Rattle.clock_views.specs.Refusals.{Shown, bare, shown_put, shown_close}
 use Rattle.clock_views.specs.RefusalPage.{refusal_value}
-use Rattle.clock_views.specs.PublicPages.{status_value, products_value, sheet_value}
-use Rattle.clock_views.specs.BidderPages.{account_value, bids_value, accepted_value, slip_value}
+use Rattle.clock_views.specs.PublicPages.{status_value, products_value, round_results_value}
+use Rattle.clock_views.specs.BidderPages.{account_value, bids_value, accepted_value}
+use Rattle.clock_views.specs.BidderPages.{bidder_results_value}
 use Rattle.clock_views.specs.OperatorPages.{closed_value, results_value}
 use Rattle.clock_api.specs.declared.routes.Page.{Page}
 use Rattle.clock_front.specs.declared.front.callers.Caller.{Caller}
@@ -113,16 +114,18 @@ outcome_of house caller (asked.no_method page) = not_allowed page
 outcome_of house caller asked.status = done
     (status_value (public_setup house.setup) (state_in house).round (state_in house).ended)
 outcome_of house caller asked.products = done (products_value (public_setup house.setup))
-outcome_of house caller (asked.sheet segment) = page_or_no_round (option_map
-    (λ closed. sheet_value (public_setup house.setup) closed.sheet) (round_in house segment))
+outcome_of house caller (asked.round_results segment) = page_or_no_round (option_map
+    (λ closed. round_results_value (public_setup house.setup) closed.sheet)
+    (round_in house segment))
 outcome_of house caller asked.account = to_bidder caller
     (λ bidder. done (account_value house.setup.products (bidder_at house.setup bidder).name
     (state_in house).round (holding_in house bidder) (state_in house).ended))
 outcome_of house caller asked.bids = to_bidder caller (λ bidder.
     done (bids_value (state_in house).round (slice_index_or house.sheets bidder None)))
 outcome_of house caller (asked.put body) = to_bidder caller (λ bidder. put_to house bidder body)
-outcome_of house caller (asked.slip segment) = to_bidder caller (λ bidder. page_or_no_round
-    (option_map (λ closed. slip_value (slip_of bidder closed)) (round_in house segment)))
+outcome_of house caller (asked.bidder_results segment) = to_bidder caller
+    (λ bidder. page_or_no_round
+    (option_map (λ closed. bidder_results_value (slip_of bidder closed)) (round_in house segment)))
 outcome_of house caller (asked.close body) =
     to_operator caller (close_to house (in_version house.setup.version body))
 outcome_of house caller asked.results = to_operator caller (done (results_value house))

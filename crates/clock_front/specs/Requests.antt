@@ -12,8 +12,8 @@ use Rattle.clock_api.specs.Routes.{page_of, last_segment, has_method}
 use Rattle.clock_bodies.specs.Bodies.{put_body}
 use Rattle.clock_bodies.specs.CloseBodies.{close_body}
 use Rattle.clock_api.specs.declared.routes.Page.{Page}
-use Rattle.clock_api.specs.declared.routes.Page.TheVariants.{Status, Products, Sheet, Account}
-use Rattle.clock_api.specs.declared.routes.Page.TheVariants.{Bids, Slip, Close, Results}
+use Rattle.clock_api.specs.declared.routes.Page.TheVariants.{Status, Products, Account, Bids, Close}
+use Rattle.clock_api.specs.declared.routes.Page.TheVariants.{RoundResults, BidderResults, Results}
 use Rattle.clock_bodies.specs.declared.put_body.PutBody.{PutBody}
 use Rattle.clock_bodies.specs.declared.close_body.CloseBody.{CloseBody}
 use Rattle.clock_bodies.specs.declared.body.BodyFault.{BodyFault}
@@ -25,11 +25,11 @@ pub data Ask : Type 0 where
   no_method : Page → Ask
   status : Ask
   products : Ask
-  sheet : List ℕ → Ask
+  round_results : List ℕ → Ask
   account : Ask
   bids : Ask
   put : Result PutBody BodyFault → Ask
-  slip : List ℕ → Ask
+  bidder_results : List ℕ → Ask
   close : Result CloseBody BodyFault → Ask
   results : Ask
 
@@ -42,11 +42,11 @@ pub record Request : Type 0 where
 abbrev pub ask_of_page : Page → Head → List ℕ → Ask
 ask_of_page Status head body = status
 ask_of_page Products head body = products
-ask_of_page Sheet head body = sheet (last_segment head.path)
+ask_of_page RoundResults head body = round_results (last_segment head.path)
 ask_of_page Account head body = account
 ask_of_page Bids head body =
     if same_bytes (codes "PUT") head.method then put (put_body body) else bids
-ask_of_page Slip head body = slip (last_segment head.path)
+ask_of_page BidderResults head body = bidder_results (last_segment head.path)
 ask_of_page Close head body = close (close_body body)
 ask_of_page Results head body = results
 

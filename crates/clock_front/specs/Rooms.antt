@@ -43,11 +43,11 @@ asks_for_page who (asked.turned_away why) = true
 asks_for_page who (asked.no_method page) = true
 asks_for_page who asked.status = true
 asks_for_page who asked.products = true
-asks_for_page who (asked.sheet segment) = true
+asks_for_page who (asked.round_results segment) = true
 asks_for_page who asked.account = true
 asks_for_page who asked.bids = true
 asks_for_page who (asked.put body) = is_no_bidder who
-asks_for_page who (asked.slip segment) = true
+asks_for_page who (asked.bidder_results segment) = true
 asks_for_page who (asked.close body) = is_no_operator who
 asks_for_page who asked.results = true
 

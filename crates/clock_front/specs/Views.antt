@@ -20,8 +20,8 @@ use Rattle.clock_house.specs.View.{seen_round}
 use Rattle.clock_house.specs.View as typed
 use Rattle.clock_api.specs.declared.code.Code.TheVariants as code
 use Rattle.clock_views.specs.Refusals.{bare}
-use Rattle.clock_views.specs.PublicPages.{status_value, products_value, sheet_value}
-use Rattle.clock_views.specs.BidderPages.{account_value, bids_value, slip_value}
+use Rattle.clock_views.specs.PublicPages.{status_value, products_value, round_results_value}
+use Rattle.clock_views.specs.BidderPages.{account_value, bids_value, bidder_results_value}
 use Rattle.clock_api.specs.Bytes.{same_bytes}
 use Rattle.clock_http.specs.Decimals.{plain_number}
 use Rattle.clock_api.specs.Replies.{Answer}
@@ -88,8 +88,9 @@ bidder_outcome setup row view (asked.no_method page) = not_allowed page
 bidder_outcome setup row view asked.status =
     done (status_value setup (seen_state setup view).round (seen_state setup view).ended)
 bidder_outcome setup row view asked.products = done (products_value setup)
-bidder_outcome setup row view (asked.sheet segment) =
-    page_or_no_round (option_map (λ seen. sheet_value setup seen.0) (round_of_segment view segment))
+bidder_outcome setup row view (asked.round_results segment) =
+    page_or_no_round (option_map (λ seen. round_results_value setup seen.0)
+        (round_of_segment view segment))
 bidder_outcome setup row view asked.account = done (account_value setup.products row.name
     (seen_state setup view).round (seen_holding setup row view) (seen_state setup view).ended)
 bidder_outcome setup row view asked.bids =
@@ -97,8 +98,9 @@ bidder_outcome setup row view asked.bids =
 bidder_outcome setup row view (asked.put (Err fault)) = refused (bare (body_code fault))
 bidder_outcome setup row view (asked.put (Ok body)) = put_outcome body
     (put_fault setup (seen_state setup view) (seen_holding setup row view) body.round body.bids)
-bidder_outcome setup row view (asked.slip segment) =
-    page_or_no_round (option_map (λ seen. slip_value seen.1) (round_of_segment view segment))
+bidder_outcome setup row view (asked.bidder_results segment) =
+    page_or_no_round (option_map (λ seen. bidder_results_value seen.1)
+        (round_of_segment view segment))
 bidder_outcome setup row view (asked.close body) = refused (bare code.Role)
 bidder_outcome setup row view asked.results = refused (bare code.Role)
 

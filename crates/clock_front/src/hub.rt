@@ -9,8 +9,8 @@ ghost use Rattle.clock_connections.specs.inside.Waiting.{AllNeedMore};
 ghost use Rattle.clock_connections.specs.Connections.{open_text, IsConnected, IsConnectFault};
 
 use crate::front::Front;
-use clock_connections::{Conn, Connections, HubFault};
 use clock_api::Reply;
+use clock_connections::{Conn, Connections, HubFault};
 use clock_processor::Processor;
 use std::alloc::Global;
 use std::marker::Model;

@@ -7,9 +7,9 @@
 #![tactic(auto)]
 
 // The public surface: names of other crates that callers of a front or a hub need.
+pub use clock_api::Reply;
 pub use clock_bodies::{BodyFault, CloseBody, PutBody, read_close, read_put};
 pub use clock_connections::{Conn, Event, HubFault};
-pub use clock_api::Reply;
 pub use clock_http::{Framing, Head, frame};
 
 mod front;

@@ -8,9 +8,9 @@ ghost use Rattle.clock_front.specs.inside.NumberedHubs.{HasTaken};
 
 use crate::front::Front;
 use crate::hub::{Fed, Hub};
+use clock_api::Reply;
 use clock_connections::{Conn, Event, HubFault};
 use clock_device::{Items, NoMemory, Text};
-use clock_api::Reply;
 use clock_processor::Processor;
 use clock_terms::Setup;
 use std::alloc::Global;

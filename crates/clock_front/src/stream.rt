@@ -5,9 +5,9 @@ ghost use Rattle.clock_front.specs.{Fronts.{StandsForTexts}, Streamed.{HasServed
 ghost use Rattle.clock_front.specs.inside.Streamed.{IsNextAnswer};
 
 use crate::front::{Front, no_memory_reply};
+use clock_api::{Code, Reply};
 use clock_connections::{RequestReadError, read_request};
 use clock_device::{Sink, Source, write_all};
-use clock_api::{Code, Reply};
 use clock_processor::Processor;
 use std::alloc::Global;
 use thiserror::Error;

@@ -2,9 +2,9 @@
 
 use crate::comparing::{assert_is_at, made_at};
 use crate::documents::{Piece, document, repeated};
+use clock_api::Code;
 use clock_device::{Failed, ListSink, Text};
 use clock_fixtures::ONE_PRODUCT;
-use clock_api::Code;
 use clock_processor::Plain;
 use clock_sim::{
     Replay, Report, SimFault, play_replay, read_replay, report_text, simulate, simulate_with,

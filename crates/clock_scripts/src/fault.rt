@@ -1,9 +1,9 @@
 ghost use Rattle.std.specs.Prelude.{◌≡◌};
 ghost use Rattle.clock_scripts.specs.declared.fault.SimFault.TheVariants.{NoMemory};
 
+use clock_api::Code;
 use clock_connections::HubFault;
 use clock_device::NoMemory;
-use clock_api::Code;
 use thiserror::Error;
 
 /// Why a rehearsal has no report: its first fault, in the order of the requests. The codes are

@@ -4,8 +4,8 @@ use Rattle.clock_terms.specs.Limits.{SetupFields}
 use Rattle.clock_http.specs.Framing.{Framing, Head, framing, whole}
 use Rattle.clock_api.specs.Routes.{page_of}
 use Rattle.clock_api.specs.declared.routes.Page.{Page}
-use Rattle.clock_api.specs.declared.routes.Page.TheVariants.{Status, Products, Sheet, Account, Bids, Slip, Close}
-use Rattle.clock_api.specs.declared.routes.Page.TheVariants.{Results}
+use Rattle.clock_api.specs.declared.routes.Page.TheVariants.{Status, Products, RoundResults, Account, Bids}
+use Rattle.clock_api.specs.declared.routes.Page.TheVariants.{BidderResults, Close, Results}
 use Rattle.clock_house.specs.Command.{other}
 use Rattle.clock_front.specs.Callers.{caller}
 use Rattle.clock_front.specs.Effects.{effect_in}
@@ -24,18 +24,18 @@ get_page : (setup : SetupFields) (who : Caller) (page : Page) (path : List ℕ) 
 get_page setup Nobody page path token body = refl
 get_page setup Operator Status path token body = refl
 get_page setup Operator Products path token body = refl
-get_page setup Operator Sheet path token body = refl
+get_page setup Operator RoundResults path token body = refl
 get_page setup Operator Account path token body = refl
 get_page setup Operator Bids path token body = refl
-get_page setup Operator Slip path token body = refl
+get_page setup Operator BidderResults path token body = refl
 get_page setup Operator Close path token body = refl
 get_page setup Operator Results path token body = refl
 get_page setup (Bidder bidder) Status path token body = refl
 get_page setup (Bidder bidder) Products path token body = refl
-get_page setup (Bidder bidder) Sheet path token body = refl
+get_page setup (Bidder bidder) RoundResults path token body = refl
 get_page setup (Bidder bidder) Account path token body = refl
 get_page setup (Bidder bidder) Bids path token body = refl
-get_page setup (Bidder bidder) Slip path token body = refl
+get_page setup (Bidder bidder) BidderResults path token body = refl
 get_page setup (Bidder bidder) Close path token body = refl
 get_page setup (Bidder bidder) Results path token body = refl
 

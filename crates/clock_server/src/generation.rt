@@ -13,9 +13,9 @@ ghost use Rattle.clock_server.specs.MirroredGenerations.{MirroredGenerationsCont
 use crate::acceptor::Listen;
 use crate::request_log::{Announced, Announcer};
 use crate::serving::{ServeFault, serve_all};
+use clock_api::Code;
 use clock_device::Source;
 use clock_front::{Effect, Front};
-use clock_api::Code;
 use clock_http::frame;
 use clock_journal::{
     Durable, EndedJournal, JournalFault, Machine, NewJournal, Record, Recovered, TakeError,

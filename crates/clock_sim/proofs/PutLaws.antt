@@ -23,8 +23,8 @@ use Rattle.clock_front.specs.Outcomes.{command_of}
 use Rattle.clock_front.specs.Callers.{caller}
 use Rattle.clock_front.specs.Fronts.{commands_of}
 use Rattle.clock_api.specs.declared.routes.Page.{Page}
-use Rattle.clock_api.specs.declared.routes.Page.TheVariants.{Status, Products, Sheet, Account, Bids, Slip, Close}
-use Rattle.clock_api.specs.declared.routes.Page.TheVariants.{Results}
+use Rattle.clock_api.specs.declared.routes.Page.TheVariants.{Status, Products, RoundResults, Account, Bids}
+use Rattle.clock_api.specs.declared.routes.Page.TheVariants.{BidderResults, Close, Results}
 use Rattle.clock_front.specs.declared.front.callers.Caller.{Caller}
 use Rattle.clock_front.specs.declared.front.callers.Caller.TheVariants.{Nobody, Operator, Bidder}
 use Rattle.clock_replays.specs.declared.replay.Script.{Script}
@@ -117,23 +117,23 @@ leaves setup (Bidder b) (asked.turned_away code) free = λ auction. refl
 leaves setup (Bidder b) (asked.no_method page) free = λ auction. refl
 leaves setup (Bidder b) asked.status free = λ auction. refl
 leaves setup (Bidder b) asked.products free = λ auction. refl
-leaves setup (Bidder b) (asked.sheet segment) free = λ auction. refl
+leaves setup (Bidder b) (asked.round_results segment) free = λ auction. refl
 leaves setup (Bidder b) asked.account free = λ auction. refl
 leaves setup (Bidder b) asked.bids free = λ auction. refl
 leaves setup (Bidder b) (asked.put (Ok body)) free = λ auction. refl
 leaves setup (Bidder b) (asked.put (Err fault)) free = λ auction. refl
-leaves setup (Bidder b) (asked.slip segment) free = λ auction. refl
+leaves setup (Bidder b) (asked.bidder_results segment) free = λ auction. refl
 leaves setup (Bidder b) (asked.close body) free = absurd free
 leaves setup (Bidder b) asked.results free = λ auction. refl
 leaves setup Operator (asked.turned_away code) free = λ auction. refl
 leaves setup Operator (asked.no_method page) free = λ auction. refl
 leaves setup Operator asked.status free = λ auction. refl
 leaves setup Operator asked.products free = λ auction. refl
-leaves setup Operator (asked.sheet segment) free = λ auction. refl
+leaves setup Operator (asked.round_results segment) free = λ auction. refl
 leaves setup Operator asked.account free = λ auction. refl
 leaves setup Operator asked.bids free = λ auction. refl
 leaves setup Operator (asked.put body) free = λ auction. refl
-leaves setup Operator (asked.slip segment) free = λ auction. refl
+leaves setup Operator (asked.bidder_results segment) free = λ auction. refl
 leaves setup Operator (asked.close body) free = absurd free
 leaves setup Operator asked.results free = λ auction. refl
 
@@ -151,11 +151,11 @@ of_page : (page : Page) (head : Head) (body : List ℕ) → head.method ≡ code
     → IsNoClosing (ask_by_route (Some page) head body)
 of_page Status head body is = if_method _ Status asked.status tt
 of_page Products head body is = if_method _ Products asked.products tt
-of_page Sheet head body is = if_method _ Sheet (ask_of_page Sheet head body) tt
+of_page RoundResults head body is = if_method _ RoundResults (ask_of_page RoundResults head body) tt
 of_page Account head body is = if_method _ Account asked.account tt
 of_page Bids head body is = if_method _ Bids (ask_of_page Bids head body)
     (put_or_bids (same_bytes (codes "PUT") head.method) (asked.put (put_body body)) asked.bids tt tt)
-of_page Slip head body is = if_method _ Slip (ask_of_page Slip head body) tt
+of_page BidderResults head body is = if_method _ BidderResults (ask_of_page BidderResults head body) tt
 of_page Close head body is =
     let none : has_method Close head.method ≡ false = ap (λ (method : List ℕ). has_method Close method) is in
     subst

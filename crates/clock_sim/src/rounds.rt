@@ -15,10 +15,10 @@ ghost use Rattle.clock_sim.specs.inside.Groups.{IsGroupUnderWay, IsNext, HaveTex
 ghost use Rattle.clock_sim.specs.inside.Groups.{after_group, requests_in, with_put, with_turn};
 ghost use Rattle.clock_sim.specs.inside.Steps.{AreScriptsOf, IsGoing, IsResultByCode, MakesStep};
 
+use clock_api::{Code, Reply};
 use clock_connections::{Conn, HubFault};
 use clock_device::NoMemory;
 use clock_front::{Fed, Hub};
-use clock_api::{Code, Reply};
 use clock_http::{law_decided_once, law_one_head};
 use clock_processor::Processor;
 use clock_replays::{Closing, Script};

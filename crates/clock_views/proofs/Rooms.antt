@@ -15,9 +15,9 @@ use Rattle.clock_closing.specs.declared.closed_round.Slip.{Slip}
 use Rattle.clock_views.specs.Values.{whole, whole_or_null, list_of, items_of}
 use Rattle.clock_views.specs.Rooms.{most_text, most_items}
 use Rattle.clock_views.specs.inside.Rooms.{room_of_item, room_of_bid, room_of_line, room_of_result}
-use Rattle.clock_views.specs.PublicPages.{status_value, line_value, sheet_value}
+use Rattle.clock_views.specs.PublicPages.{status_value, line_value, round_results_value}
 use Rattle.clock_views.specs.BidderPages.{account_value, bid_value, bids_value, sheet_or_null, accepted_value}
-use Rattle.clock_views.specs.BidderPages.{slip_value}
+use Rattle.clock_views.specs.BidderPages.{bidder_results_value}
 use Rattle.clock_views.specs.OperatorPages.{closed_value, result_value, result_in, results_value}
 
 -- ---- lists
@@ -89,8 +89,8 @@ pub accepted_most : (round count : ℕ) → most_text (accepted_value round coun
 unfolding accepted_value
 accepted_most round count = refl
 
-pub slip_most : (slip : Slip) → most_text (slip_value slip) ≡ 111 + 21 * length slip.demands
-unfolding slip_value
+pub slip_most : (slip : Slip) → most_text (bidder_results_value slip) ≡ 111 + 21 * length slip.demands
+unfolding bidder_results_value
 slip_most slip = omega (arith, numbers_most slip.demands)
 
 pub closed_most : (round : ℕ) (ended : Bool) → most_text (closed_value round ended) ≡ 46
@@ -110,8 +110,8 @@ result_in_most house i n below =
     omega (arith, one_most (result_in house) i n below, result_most (bidder_at house.setup i).name (holding_in house i))
 
 pub sheet_most : (setup : PublicSetup) (sheet : RoundSheet) → length sheet.lines ≡ length setup.products
-    → most_text (sheet_value setup sheet) ≡ 59 + 191 * length sheet.lines
-unfolding sheet_value
+    → most_text (round_results_value setup sheet) ≡ 59 + 191 * length sheet.lines
+unfolding round_results_value
 sheet_most setup sheet each =
     let rows = zip setup.products sheet.lines in
     let many : length rows ≡ length sheet.lines = same_zip setup.products sheet.lines (sym each) ∙ sym each in

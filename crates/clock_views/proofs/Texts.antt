@@ -17,9 +17,9 @@ use Rattle.clock_closing.specs.declared.closed_round.Slip.{Slip}
 use Rattle.clock_house.specs.House.{HouseFields, state_in}
 use Rattle.clock_views.specs.Values.{whole, whole_or_null, list_of, object_of, member_if, number_if, true_or_false}
 use Rattle.clock_views.specs.PublicPages.{status_value, status_bytes, from_version_2, product_value, products_value}
-use Rattle.clock_views.specs.PublicPages.{line_value, sheet_value}
+use Rattle.clock_views.specs.PublicPages.{line_value, round_results_value}
 use Rattle.clock_views.specs.BidderPages.{account_value, bid_value, bids_value, sheet_or_null, accepted_value}
-use Rattle.clock_views.specs.BidderPages.{accepted_bytes, slip_value}
+use Rattle.clock_views.specs.BidderPages.{accepted_bytes, bidder_results_value}
 use Rattle.clock_views.specs.OperatorPages.{closed_value, closed_bytes, result_value, result_in, results_value}
 
 -- what is everyone's
@@ -112,12 +112,12 @@ sheet_with true lines round = refl
 sheet_with false lines round = refl
 
 pub sheet_in_pieces : (setup : PublicSetup) (sheet : RoundSheet)
-    → compact_text (sheet_value setup sheet)
+    → compact_text (round_results_value setup sheet)
     ≡ (codes "{\"ended\":" ++ true_or_false sheet.ended)
     ++ (codes ",\"products\":"
     ++ (compact_text (list_of (λ row. line_value row.0 row.1) (zip setup.products sheet.lines))
     ++ ((codes ",\"round\":" ++ decimal sheet.round) ++ codes "}")))
-unfolding sheet_value serde_json_on_literals
+unfolding round_results_value serde_json_on_literals
 sheet_in_pieces setup sheet =
     sheet_with sheet.ended (list_of (λ row. line_value row.0 row.1) (zip setup.products sheet.lines)) sheet.round
 
@@ -163,12 +163,12 @@ unfolding accepted_value serde_json_on_literals
 accepted_in_bytes round count = simp append_assoc
 
 pub slip_in_pieces : (slip : Slip)
-    → compact_text (slip_value slip)
+    → compact_text (bidder_results_value slip)
     ≡ (codes "{\"activity\":" ++ decimal slip.activity)
     ++ ((codes ",\"demands\":" ++ compact_text (list_of whole slip.demands))
     ++ ((codes ",\"eligibility\":" ++ decimal slip.eligibility)
     ++ ((codes ",\"round\":" ++ decimal slip.round) ++ codes "}")))
-unfolding slip_value serde_json_on_literals
+unfolding bidder_results_value serde_json_on_literals
 slip_in_pieces slip = refl
 
 -- what is the operator's

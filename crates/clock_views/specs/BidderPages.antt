@@ -3,7 +3,7 @@
 --     bid_value bid, bids_value round sheet      its sheet in force, or null
 --     accepted_value round count      the reply to a sheet that was accepted
 --     accepted_bytes round count      that page, byte for byte
---     slip_value slip      its results of a closed round
+--     bidder_results_value slip      its results of a closed round
 use Rattle.std.specs.Prelude.{ℕ, List, [], ◌∷◌, ◌++◌, Bool, true, Option, Some, None, codes}
 use Rattle.std.specs.Prelude.{decimal}
 use Rattle.serde_json.specs.Data.{Data, null, boolean, string}
@@ -42,8 +42,8 @@ accepted_value round count =
     object_of (("accepted", boolean true) ∷ ("bids", whole count) ∷ ("round", whole round) ∷ [])
 
 -- bidder results: processed activity and demands, and the next eligibility
-unfoldable pub slip_value : Slip → Data
-slip_value slip = object_of (
+unfoldable pub bidder_results_value : Slip → Data
+bidder_results_value slip = object_of (
     ("activity", whole slip.activity) ∷
     ("demands", list_of whole slip.demands) ∷
     ("eligibility", whole slip.eligibility) ∷

@@ -3,7 +3,7 @@
 --     status_bytes setup round ended      that page, byte for byte
 --     from_version_2 version n      a number that set-up documents have from version 2 on
 --     product_value version product, products_value setup      the public set-up
---     line_value product line, sheet_value setup sheet      the round results
+--     line_value product line, round_results_value setup sheet      the round results
 use Rattle.std.specs.Prelude.{ℕ, List, [], ◌∷◌, ◌++◌, Bool, nat_le, Option, Some, None}
 use Rattle.std.specs.Prelude.{if◌then◌else◌, codes, decimal, zip}
 use Rattle.serde_json.specs.Data.{Data, boolean, string}
@@ -58,8 +58,8 @@ line_value product line = object_of (
     ("start", whole line.start) ∷ [])
 
 -- the round results
-unfoldable pub sheet_value : PublicSetup → RoundSheet → Data
-sheet_value setup sheet = object_of (
+unfoldable pub round_results_value : PublicSetup → RoundSheet → Data
+round_results_value setup sheet = object_of (
     ("ended", boolean sheet.ended) ∷
     ("products", list_of (λ row. line_value row.0 row.1) (zip setup.products sheet.lines)) ∷
     ("round", whole sheet.round) ∷ [])

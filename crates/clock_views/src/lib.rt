@@ -25,8 +25,8 @@ mod refusal;
 
 pub use pages::{
     accepted_page, account_page, bids_page, closed_page, headed_accepted, headed_account,
-    headed_bids, headed_closed, headed_results, headed_sheet, headed_slip, headed_status,
-    products_page, results_page, sheet_page, slip_page, status_page,
+    headed_bidder_results, headed_bids, headed_closed, headed_results, headed_round_results,
+    headed_status, products_page, results_page, sheet_page, slip_page, status_page,
 };
 pub use pieces::Headed;
 pub use refusal::{Refusal, headed_refusal, refusal_page};

@@ -4,11 +4,11 @@
 ghost use Rattle.std.specs.Prelude.{◌≡◌, ◌<◌, ◌≤◌, ◌+◌, length, option_copied, IfOk};
 ghost use Rattle.clock_terms.specs.Limits.{IsName, IsRow, public_setup};
 ghost use Rattle.clock_house.specs.History.{bidder_at};
-ghost use Rattle.clock_views.specs.PublicPages.{status_value, status_bytes, sheet_value};
+ghost use Rattle.clock_views.specs.PublicPages.{status_value, status_bytes, round_results_value};
 ghost use Rattle.clock_views.specs.PublicPages.{products_value, product_value, line_value};
 ghost use Rattle.clock_views.specs.PublicPages.{from_version_2 as number_from_version_2};
 ghost use Rattle.clock_views.specs.BidderPages.{account_value, bids_value, accepted_value};
-ghost use Rattle.clock_views.specs.BidderPages.{accepted_bytes, slip_value};
+ghost use Rattle.clock_views.specs.BidderPages.{accepted_bytes, bidder_results_value};
 ghost use Rattle.clock_views.specs.OperatorPages.{closed_value, closed_bytes, results_value};
 ghost use Rattle.clock_views.specs.{Rooms.{IsHeaded, most_text}, Values.{IsPage}};
 ghost use Rattle.clock_views.specs.inside.Rooms.{room_of_line, room_of_product};
@@ -22,11 +22,11 @@ use crate::pieces::{
     Headed, push_comma_if, push_demands, push_name, push_number, push_number_if,
     push_number_or_null, push_truth,
 };
+use clock_api::text_with_room;
 use clock_bids::{Own, Sheet};
 use clock_closing::Slip;
 use clock_device::{Bounded, NoMemory, Text};
 use clock_house::House;
-use clock_api::text_with_room;
 use clock_posting::{Line, RoundSheet};
 use clock_terms::{Product, Setup, units_held};
 use std::alloc::Global;
@@ -125,15 +125,15 @@ fn push_line(text: &mut Bounded<u8>, later: bool, product: &Product, line: &Line
 /// ```
 pub fn sheet_page(alloc: Global, setup: &Setup, sheet: &RoundSheet) -> Result<Text, NoMemory>
     requires { length sheet.now.lines ≡ length setup.now.products }
-    ensures { IfOk result (IsPage (sheet_value (public_setup setup.now) sheet.now)) }
+    ensures { IfOk result (IsPage (round_results_value (public_setup setup.now) sheet.now)) }
 {
-    Ok(headed_sheet(alloc, b"", setup, sheet)?)
+    Ok(headed_round_results(alloc, b"", setup, sheet)?)
 }
 
 /// Like [`sheet_page`], after the head of a reply.
-pub fn headed_sheet(alloc: Global, head: &[u8], setup: &Setup, sheet: &RoundSheet) -> Headed
+pub fn headed_round_results(alloc: Global, head: &[u8], setup: &Setup, sheet: &RoundSheet) -> Headed
     requires { length sheet.now.lines ≡ length setup.now.products }
-    ensures { IsHeaded head.now (sheet_value (public_setup setup.now) sheet.now) result }
+    ensures { IsHeaded head.now (round_results_value (public_setup setup.now) sheet.now) result }
 {
     let mut text = text_with_room(alloc, head, SHEET + LINE * sheet.lines.len() as u128)?;
     push_truth(&mut text, b"{\"ended\":", sheet.ended);
@@ -281,14 +281,14 @@ pub fn headed_accepted(alloc: Global, head: &[u8], round: u64, bids: u64) -> Hea
 /// {"activity":1,"demands":[1],"eligibility":2,"round":2}
 /// ```
 pub fn slip_page(alloc: Global, slip: &Slip) -> Result<Text, NoMemory>
-    ensures { IfOk result (IsPage (slip_value slip.now)) }
+    ensures { IfOk result (IsPage (bidder_results_value slip.now)) }
 {
-    Ok(headed_slip(alloc, b"", slip)?)
+    Ok(headed_bidder_results(alloc, b"", slip)?)
 }
 
 /// Like [`slip_page`], after the head of a reply.
-pub fn headed_slip(alloc: Global, head: &[u8], slip: &Slip) -> Headed
-    ensures { IsHeaded head.now (slip_value slip.now) result }
+pub fn headed_bidder_results(alloc: Global, head: &[u8], slip: &Slip) -> Headed
+    ensures { IsHeaded head.now (bidder_results_value slip.now) result }
 {
     let mut text = text_with_room(alloc, head, SLIP + DEMAND * slip.demands.len() as u128)?;
     push_number(&mut text, b"{\"activity\":", slip.activity);

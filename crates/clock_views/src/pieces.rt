@@ -10,8 +10,8 @@ ghost use Rattle.clock_views.specs.inside.Rooms.{room_of_number, room_of_name, r
 ghost use Rattle.clock_views.specs.inside.Rooms.{room_of_item, room_of_array};
 ghost use Rattle.clock_views.specs.inside.Values.{rest_text, Adds};
 
-use clock_device::{Bounded, Text};
 use clock_api::NoRoom;
+use clock_device::{Bounded, Text};
 use clock_terms::PositiveDemands;
 
 /// A head and the page after it, or the size of the page for which an allocation failed.

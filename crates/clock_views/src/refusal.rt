@@ -10,11 +10,11 @@ ghost use Rattle.clock_views.specs.Values.{IsPage};
 
 use crate::capacities::REFUSAL;
 use crate::pieces::{Headed, push_number, push_number_if};
+use clock_api::{Code, text_with_room};
 use clock_bids::BidFault;
 use clock_closing::CloseFault;
 use clock_device::{NoMemory, Text};
 use clock_house::PutFault;
-use clock_api::{Code, text_with_room};
 use clock_order::TieFault;
 use std::alloc::Global;
 use std::marker::Model;

@@ -9,8 +9,8 @@ use Rattle.matchit.specs.Route.{Scan, parse_route}
 use Rattle.matchit.specs.Seek.{first}
 use Rattle.matchit.specs.declared.error.InsertError.{InsertError}
 use Rattle.clock_api.specs.declared.routes.Page.{Page}
-use Rattle.clock_api.specs.declared.routes.Page.TheVariants.{Status, Products, Sheet, Account}
-use Rattle.clock_api.specs.declared.routes.Page.TheVariants.{Bids, Slip, Close, Results}
+use Rattle.clock_api.specs.declared.routes.Page.TheVariants.{Status, Products, Account, Bids, Close}
+use Rattle.clock_api.specs.declared.routes.Page.TheVariants.{RoundResults, BidderResults, Results}
 
 abbrev pub Table : Type 0
 Table = RowsOf (RouteOf Page)
@@ -28,10 +28,10 @@ unfoldable pub table : Table
 table =
     with_route (codes "/v1/results") Results
     (with_route (codes "/v1/close") Close
-    (with_route (codes "/v1/me/rounds/{n}") Slip
+    (with_route (codes "/v1/me/rounds/{n}") BidderResults
     (with_route (codes "/v1/me/bids") Bids
     (with_route (codes "/v1/me") Account
-    (with_route (codes "/v1/rounds/{n}") Sheet
+    (with_route (codes "/v1/rounds/{n}") RoundResults
     (with_route (codes "/v1/products") Products
     (with_route (codes "/v1/status") Status [])))))))
 

@@ -13,8 +13,8 @@ use Rattle.clock_house.specs.PublicState.{PublicState, put_fault}
 use Rattle.clock_house.specs.View.{Seen, seen_state, seen_holding, seen_in_force, seen_round}
 use Rattle.clock_api.specs.declared.code.Code.TheVariants as code
 use Rattle.clock_views.specs.Refusals.{bare}
-use Rattle.clock_views.specs.PublicPages.{status_value, products_value, sheet_value}
-use Rattle.clock_views.specs.BidderPages.{account_value, bids_value, slip_value}
+use Rattle.clock_views.specs.PublicPages.{status_value, products_value, round_results_value}
+use Rattle.clock_views.specs.BidderPages.{account_value, bids_value, bidder_results_value}
 use Rattle.clock_http.specs.Decimals.{plain_number}
 use Rattle.clock_front.specs.Requests.{Ask}
 use Rattle.clock_front.specs.Requests as asked
@@ -50,15 +50,16 @@ known_outcome setup row known (asked.no_method page) = not_allowed page
 known_outcome setup row known asked.status =
     done (status_value setup known.public_state.round known.public_state.ended)
 known_outcome setup row known asked.products = done (products_value setup)
-known_outcome setup row known (asked.sheet segment) =
-    page_or_no_round (option_map (λ seen. sheet_value setup seen.0) (known_round known segment))
+known_outcome setup row known (asked.round_results segment) =
+    page_or_no_round (option_map (λ seen. round_results_value setup seen.0)
+        (known_round known segment))
 known_outcome setup row known asked.account = done (account_value setup.products row.name
     known.public_state.round known.holding known.public_state.ended)
 known_outcome setup row known asked.bids = done (bids_value known.public_state.round known.in_force)
 known_outcome setup row known (asked.put (Err fault)) = refused (bare (body_code fault))
 known_outcome setup row known (asked.put (Ok body)) =
     put_outcome body (put_fault setup known.public_state known.holding body.round body.bids)
-known_outcome setup row known (asked.slip segment) =
-    page_or_no_round (option_map (λ seen. slip_value seen.1) (known_round known segment))
+known_outcome setup row known (asked.bidder_results segment) =
+    page_or_no_round (option_map (λ seen. bidder_results_value seen.1) (known_round known segment))
 known_outcome setup row known (asked.close body) = refused (bare code.Role)
 known_outcome setup row known asked.results = refused (bare code.Role)

@@ -20,14 +20,14 @@ ghost use Rattle.clock_front.specs.inside.Changes.{change_asked};
 use crate::front::FixedParts;
 use crate::front::callers::Caller;
 use crate::front::replies::{
-    AnswerError, accepted, account, bare_refusal, bids, closed, products, refusal, results, sheet,
-    slip, status,
+    AnswerError, accepted, account, bare_refusal, bidder_results, bids, closed, products, refusal,
+    results, round_results, status,
 };
 use crate::front::response::{Effect, Response, unchanged};
+use clock_api::{Code, NoRoom, Page, Reply, last_segment};
 use clock_bodies::{BodyFault, CloseBody, is_of_version, read_close, read_put};
 use clock_closing::CloseFault;
 use clock_house::{House, PutFault};
-use clock_api::{Code, NoRoom, Page, Reply, last_segment};
 use clock_http::Head;
 use clock_processor::Processor;
 use clock_terms::Setup;
@@ -199,11 +199,11 @@ fn reply_without_change<P>(
     match (page, caller) {
         (Page::Status, _) => status(alloc, house),
         (Page::Products, _) => products(alloc, base.products.as_slice()),
-        (Page::Sheet, _) => sheet(alloc, house, last_segment(head.path)),
+        (Page::RoundResults, _) => round_results(alloc, house, last_segment(head.path)),
         (Page::Account, Caller::Bidder(bidder)) => account(alloc, house, bidder),
         (Page::Bids, Caller::Bidder(bidder)) => bids(alloc, house, bidder),
-        (Page::Slip, Caller::Bidder(bidder)) => {
-            slip(alloc, house, bidder, last_segment(head.path))
+        (Page::BidderResults, Caller::Bidder(bidder)) => {
+            bidder_results(alloc, house, bidder, last_segment(head.path))
         }
         (Page::Results, Caller::Operator) => results(alloc, house),
         (_, Caller::Nobody) => bare_refusal(alloc, Code::Token),

@@ -16,13 +16,13 @@ ghost use Rattle.clock_front.specs.inside.FixedPage.{IsProductsPage, IsWritten};
 ghost use Rattle.clock_front.specs.inside.Replies.{IsPageIn, IsReplyOrFailure};
 ghost use Rattle.clock_front.specs.Requests as asked;
 
+use clock_api::{Code, HEADROOM, NoRoom, Page, Reply, text_with_room};
 use clock_device::Text;
 use clock_house::House;
-use clock_api::{Code, HEADROOM, NoRoom, Page, Reply, text_with_room};
 use clock_http::plain_number;
 use clock_views::{
-    Refusal, headed_accepted, headed_account, headed_bids, headed_closed, headed_refusal,
-    headed_results, headed_sheet, headed_slip, headed_status,
+    Refusal, headed_accepted, headed_account, headed_bidder_results, headed_bids, headed_closed,
+    headed_refusal, headed_results, headed_round_results, headed_status,
 };
 use std::alloc::Global;
 
@@ -122,8 +122,12 @@ pub(crate) fn products(alloc: Global, page: &[u8]) -> Result<Reply, NoRoom>
 
 /// The round results of the round whose number `segment` is, for everyone. If it is not closed, a
 /// refusal.
-pub(crate) fn sheet<P>(alloc: Global, house: &House<P>, segment: &[u8]) -> Result<Reply, NoRoom>
-    ensures { IsReplyOrFailure house.now who.Nobody (asked.sheet segment.now) result }
+pub(crate) fn round_results<P>(
+    alloc: Global,
+    house: &House<P>,
+    segment: &[u8],
+) -> Result<Reply, NoRoom>
+    ensures { IsReplyOrFailure house.now who.Nobody (asked.round_results segment.now) result }
 {
     let Some(round) = plain_number(segment) else {
         return bare_refusal(alloc, Code::NoRound);
@@ -131,7 +135,7 @@ pub(crate) fn sheet<P>(alloc: Global, house: &House<P>, segment: &[u8]) -> Resul
     let Some(sheet) = house.sheet(round) else {
         return bare_refusal(alloc, Code::NoRound);
     };
-    page_reply(headed_sheet(alloc, HEADROOM, house.setup(), sheet))
+    page_reply(headed_round_results(alloc, HEADROOM, house.setup(), sheet))
 }
 
 /// A bidder's account. Requires a bidder of the set-up.
@@ -160,14 +164,15 @@ pub(crate) fn accepted(alloc: Global, round: u64, bids: u64) -> Result<Reply, No
 
 /// A bidder's results of the round whose number `segment` is. If it is not closed, a refusal.
 /// Requires a bidder of the set-up.
-pub(crate) fn slip<P>(
+pub(crate) fn bidder_results<P>(
     alloc: Global,
     house: &House<P>,
     bidder: u32,
     segment: &[u8],
 ) -> Result<Reply, NoRoom>
     requires { bidder < length house.now.setup.bidders }
-    ensures { IsReplyOrFailure house.now (who.Bidder bidder) (asked.slip segment.now) result }
+    ensures { IsReplyOrFailure house.now (who.Bidder bidder)
+        (asked.bidder_results segment.now) result }
 {
     let Some(round) = plain_number(segment) else {
         return bare_refusal(alloc, Code::NoRound);
@@ -175,7 +180,7 @@ pub(crate) fn slip<P>(
     let Some(slip) = house.slip(bidder, round) else {
         return bare_refusal(alloc, Code::NoRound);
     };
-    page_reply(headed_slip(alloc, HEADROOM, slip))
+    page_reply(headed_bidder_results(alloc, HEADROOM, slip))
 }
 
 /// Each bidder's eligibility and processed demands, for the operator.

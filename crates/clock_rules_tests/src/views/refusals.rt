@@ -1,10 +1,10 @@
 //! Pages of refusals, with a place, with a round, and with neither.
 
 use crate::comparing::assert_has;
+use clock_api::Code;
 use clock_bids::BidFault;
 use clock_device::Text;
 use clock_house::{CloseFault, PutFault};
-use clock_api::Code;
 use clock_order::TieFault;
 use clock_views::{Refusal, headed_refusal, refusal_page};
 use std::alloc::Global;

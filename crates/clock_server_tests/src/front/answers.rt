@@ -3,12 +3,12 @@ use super::hostile::{Hostile, are_reported};
 use super::requests::{compare, reply_of, request_of, setup_of};
 use crate::comparing::{assert_is, assert_is_at, made_at};
 use crate::front::example::{on_front, on_one_product};
+use clock_api::Code;
 use clock_device::{Items, Text};
 use clock_fixtures::{
     ACCEPTED, ACTIVITY_LIMIT, AT_THE_HIGHEST, GRANULES_AND_INCREMENTS, NO_SHEET, ONE_PRODUCT, PUT,
 };
 use clock_front::{Front, Replies, Reply, run};
-use clock_api::Code;
 use clock_processor::Plain;
 use std::alloc::Global;
 use std::process::Abort;

@@ -3,10 +3,10 @@ ghost use Rattle.std.specs.Prelude.{None, false};
 
 use crate::comparing::{assert_is_at, assert_reads_at, made_at};
 use crate::front::example::on_one_product;
+use clock_api::Code;
 use clock_device::{ListSink, Source, Stop};
 use clock_fixtures::LONG_HEAD;
 use clock_front::{Front, StreamFault, serve_stream};
-use clock_api::Code;
 use clock_processor::Plain;
 use std::alloc::Global;
 use std::process::Abort;

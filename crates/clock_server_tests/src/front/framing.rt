@@ -4,8 +4,8 @@ ghost use Rattle.clock_http.specs.Shown.{Knows};
 
 use crate::comparing::{assert_is_at, made_at};
 use crate::front::example::on_one_product;
-use clock_front::{Framing, Front, frame};
 use clock_api::Code;
+use clock_front::{Framing, Front, frame};
 use clock_http::Progress;
 use clock_processor::Plain;
 use std::alloc::Global;

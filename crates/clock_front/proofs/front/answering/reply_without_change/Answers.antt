@@ -24,13 +24,14 @@ returns-in-Status-default g c = λ body asks.
     c.status.result c.in-Some.is (sym c.has_method.ensures ∙ c.if-not-has_method.false) c.in-Status-default.is-0
     c.status.ensures
 
-pub returns-in-Sheet-default : goal.returns-in-Sheet-default
-returns-in-Sheet-default g c = λ body asks.
+pub returns-in-RoundResults-default : goal.returns-in-RoundResults-default
+returns-in-RoundResults-default g c = λ body asks.
     let house = c.args.house.now in
-    for_page c.args.page c.in-Some.page pages.Sheet c.args.caller (shown_head c.args.head.now) body house
-    c.sheet.result c.in-Some.is (sym c.has_method.ensures ∙ c.if-not-has_method.false) c.in-Sheet-default.is-0
-    (subst (λ (segment : List ℕ). IsReplyOrFailure house Nobody (asked.sheet segment) c.sheet.result)
-    c.last_segment.ensures c.sheet.ensures)
+    for_page c.args.page c.in-Some.page pages.RoundResults c.args.caller (shown_head c.args.head.now) body house
+    c.round_results.result c.in-Some.is (sym c.has_method.ensures
+    ∙ c.if-not-has_method.false) c.in-RoundResults-default.is-0
+    (subst (λ (segment : List ℕ). IsReplyOrFailure house Nobody (asked.round_results segment) c.round_results.result)
+    c.last_segment.ensures c.round_results.ensures)
 
 pub returns-in-Account-Bidder : goal.returns-in-Account-Bidder
 returns-in-Account-Bidder g c = λ body asks.
@@ -40,15 +41,17 @@ returns-in-Account-Bidder g c = λ body asks.
     (subst (λ (who : Caller). IsReplyOrFailure house who asked.account c.account.result)
     (sym c.in-Account-Bidder.is-1) c.account.ensures)
 
-pub returns-in-Slip-Bidder : goal.returns-in-Slip-Bidder
-returns-in-Slip-Bidder g c = λ body asks.
+pub returns-in-BidderResults-Bidder : goal.returns-in-BidderResults-Bidder
+returns-in-BidderResults-Bidder g c = λ body asks.
     let house = c.args.house.now in
-    for_page c.args.page c.in-Some.page pages.Slip c.args.caller (shown_head c.args.head.now) body house
-    c.slip.result c.in-Some.is (sym c.has_method.ensures ∙ c.if-not-has_method.false) c.in-Slip-Bidder.is-0
-    (subst (λ (who : Caller). IsReplyOrFailure house who (asked.slip (last_segment c.args.head.now.path.now))
-    c.slip.result) (sym c.in-Slip-Bidder.is-1) (subst (λ (segment : List ℕ). IsReplyOrFailure house
-    (Bidder c.in-Slip-Bidder.bidder) (asked.slip segment) c.slip.result) c.last_segment-in-Slip-Bidder.ensures
-    c.slip.ensures))
+    for_page c.args.page c.in-Some.page pages.BidderResults c.args.caller (shown_head c.args.head.now) body house
+    c.bidder_results.result c.in-Some.is (sym c.has_method.ensures
+    ∙ c.if-not-has_method.false) c.in-BidderResults-Bidder.is-0
+    (subst (λ (who : Caller). IsReplyOrFailure house who (asked.bidder_results (last_segment c.args.head.now.path.now))
+    c.bidder_results.result) (sym c.in-BidderResults-Bidder.is-1) (subst (λ (segment : List ℕ). IsReplyOrFailure house
+    (Bidder c.in-BidderResults-Bidder.bidder)
+    (asked.bidder_results segment) c.bidder_results.result) c.last_segment-in-BidderResults-Bidder.ensures
+    c.bidder_results.ensures))
 
 pub returns-in-Results-Operator : goal.returns-in-Results-Operator
 returns-in-Results-Operator g c = λ body asks.
@@ -64,5 +67,6 @@ account-requires g c = subst (IsKnown (length c.args.house.now.setup.bidders)) c
 pub bids-requires : goal.bids-requires
 bids-requires g c = subst (IsKnown (length c.args.house.now.setup.bidders)) c.in-Bids-Bidder.is-1 c.requires.known
 
-pub slip-requires : goal.slip-requires
-slip-requires g c = subst (IsKnown (length c.args.house.now.setup.bidders)) c.in-Slip-Bidder.is-1 c.requires.known
+pub bidder_results-requires : goal.bidder_results-requires
+bidder_results-requires g c = subst (IsKnown
+    (length c.args.house.now.setup.bidders)) c.in-BidderResults-Bidder.is-1 c.requires.known

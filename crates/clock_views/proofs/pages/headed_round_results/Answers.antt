@@ -10,7 +10,7 @@ use Rattle.clock_views.proofs.Pushes.{added, before, headed, refused, together}
 use Rattle.clock_views.proofs.Texts.{sheet_in_pieces}
 use Rattle.clock_views.proofs.Rooms.{sheet_most}
 use Rattle.clock_terms.specs.Limits.{public_setup}
-use Rattle.clock_views.proofs.pages.headed_sheet.Goals as goal
+use Rattle.clock_views.proofs.pages.headed_round_results.Goals as goal
 
 pub loop-i-preserved : goal.loop-i-preserved
 loop-i-preserved c =

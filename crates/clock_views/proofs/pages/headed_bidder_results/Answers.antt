@@ -2,7 +2,7 @@ use Rattle.std.proofs.Common.{arith}
 use Rattle.clock_views.proofs.Pushes.{added, before, headed, refused, together}
 use Rattle.clock_views.proofs.Texts.{slip_in_pieces}
 use Rattle.clock_views.proofs.Rooms.{slip_most}
-use Rattle.clock_views.proofs.pages.headed_slip.Goals as goal
+use Rattle.clock_views.proofs.pages.headed_bidder_results.Goals as goal
 
 pub returns : goal.returns
 returns c =

@@ -2,7 +2,7 @@ use Rattle.std.proofs.Common.{◌≡◌, ◌≤◌, ◌+◌, ◌*◌, ◌++◌, 
 use Rattle.clock_views.specs.PublicPages.{line_value}
 use Rattle.clock_views.specs.inside.Values.{rest_text}
 use Rattle.clock_views.specs.inside.Rooms.{room_of_line}
-use Rattle.clock_views.proofs.pages.headed_sheet.Given as goal
+use Rattle.clock_views.proofs.pages.headed_round_results.Given as goal
 
 -- with the other lines it is the whole array
 abbrev pub invariant-loop-i : goal.invariant-loop-i
