@@ -9,7 +9,7 @@ Then it compares the copy with all that was published. --saved FOLDER has public
 else has saved, such as a bidder or another web server: these must agree too. Nobody may answer at
 the bidders' address of conductor.json, nor at any --at HOST:PORT.
 
-If all is well, it removes FOLDER/fence.json, so server, nginx, receipts, and conductor can start
+If all is well, it removes FOLDER/fence.json, so server, nginx, receipts, conductor, and desk can start
 here, and continue with the same chain, key, announcements, and timetable. Otherwise it says why
 not, and changes nothing.
 """
@@ -21,10 +21,10 @@ from auction.command import Command
 from auction.conductor.settings import SettingsFault
 from auction.formats.journal import JournalFault
 from auction.standby import shell
+from auction.standby.fencing import UNITS
 from auction.standby.taking import Means, NotTaken, take_over
 
 FAULTS = (NotTaken, SettingsFault, JournalFault, OSError, ValueError)
-START = "systemctl enable --now clock-auction clock-auction-nginx clock-auction-receipts"
 
 
 def arguments(parser: argparse.ArgumentParser) -> None:
@@ -58,7 +58,8 @@ def run(given: argparse.Namespace) -> int:
     except FAULTS as fault:
         sys.exit(f"auction take-over: not taken over: {fault}")
     print(f"This machine has taken over. Of the first one: {how}.")
-    print(f"Move the auction's address here, and start: {START} clock-auction-conductor")
+    start = f"systemctl enable --now {' '.join(reversed(UNITS))}"
+    print(f"Move the auction's address here, and start: {start}")
     return 0
 
 
