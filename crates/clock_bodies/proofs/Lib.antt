@@ -1,2 +1,3 @@
+mod CompactBidLaws
 mod TieLaws
 pub mod BodyScanLaws

@@ -4,6 +4,7 @@
 
 mod body;
 mod close_body;
+mod compact_bid;
 mod put_body;
 
 pub use body::BodyFault;

@@ -8,9 +8,7 @@ use crate::body::{Body, BodyFault, read_body};
 use clock_bids::Bid;
 use clock_device::{Items, NoMemory};
 use clock_json::tree::{PlainReader, each_at, has_members, number_at};
-use clock_json::{
-    BidPart, CompactBid, PartReader, Scan, ScanStop, ScannedMembers, is_key, push, with_room,
-};
+use clock_json::{PartReader, Scan, ScanStop, ScannedMembers, is_key, push, with_room};
 use serde_json::Value;
 use std::alloc::Global;
 
@@ -23,7 +21,7 @@ pub struct PutBody {
     pub bids: Items<Bid>,
 }
 
-/// Reads a bid, from a JSON value or byte by byte.
+/// Reads a bid: from a JSON value, byte by byte, or several bytes at a time.
 #[derive(Drop)]
 pub struct BidReader;
 
@@ -138,22 +136,6 @@ impl<'v> ScannedMembers<'v> for FoundBid {
     }
 }
 
-/// Several bytes at a time: a bid that is written compactly.
-impl BidPart for BidReader {
-    type Part = Bid;
-
-    ghost shown = { bid_data };
-
-    #[inline(always)]
-    fn part_of(bid: CompactBid) -> Bid {
-        Bid {
-            product: bid.product,
-            quantity: bid.quantity,
-            price: bid.price,
-        }
-    }
-}
-
 /// Reads the next list of bids. Reserves memory once, for the most bids that the rest of the text
 /// can have.
 #[inline(never)]
@@ -163,11 +145,11 @@ fn bids(alloc: Global, scan: &mut Scan<'_>) -> Result<Items<Bid>, ScanStop>
 {
     scan.opens(b'[')?;
     let empty = with_room(alloc, MOST_AHEAD.min(scan.bytes_left() / LEAST_BID))?;
-    let mut list = scan.compact_bids::<BidReader>(empty)?;
+    let mut list = scan.compact_parts::<BidReader>(empty)?;
     'items: while !scan.closes(b']') {
         let next = BidReader::part(alloc, scan)?;
         push(&mut list, next)?;
-        list = scan.compact_bids::<BidReader>(list)?;
+        list = scan.compact_parts::<BidReader>(list)?;
     }
     Ok(Items::from_vec(list))
 }

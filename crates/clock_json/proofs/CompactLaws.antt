@@ -1,24 +1,20 @@
--- Laws of bids that are written without white space.
+-- Laws of values that are written without white space.
 use Rattle.std.proofs.Common.{◌≡◌, ℕ, ◌+◌, ◌<◌, ◌≤◌, ◌^◌, true, List, ◌∷◌, ◌++◌, length, take, drop, get_or, decimal}
-use Rattle.std.proofs.Common.{codes, [], map, replicate, zero, suc, ◌*◌, refl, sym, ap, ap₂, ◌∙◌, arith}
+use Rattle.std.proofs.Common.{[], map, replicate, zero, suc, ◌*◌, refl, sym, ap, ap₂, ◌∙◌, arith}
 use Rattle.std.proofs.Common.{Bool, false, Option, IfSome, subst, ⊎_elim}
 use Rattle.std.specs.Bool.{then_some}
 use Rattle.std.proofs.Math.Nat.{pow-suc, pow-le-pow_right}
 use Rattle.std.proofs.lemmas.Bool.{cases_lt}
 use Rattle.std.proofs.lemmas.List.{append_assoc, take-append-drop, drop-drop, get_or-drop, get_or-take, get_or_past}
-use Rattle.json.specs.Token.{Token, key, begin_object, end_object, begin_array, end_array, number, string}
-use Rattle.json.specs.Text.{content}
+use Rattle.json.specs.Token.{Token, begin_array, end_array, number}
 use Rattle.json.specs.Word.{ends_word}
 use Rattle.json.specs.Lex as lexer
-use Rattle.json.specs.Lex.{Lexeme, Place, may_begin, token, comma, colon, lex, between, punctuate}
-use Rattle.serde_json.specs.Data.{Data, no_members, put}
+use Rattle.json.specs.Lex.{Lexeme, Place, may_begin, token, comma, lex, between, punctuate}
+use Rattle.serde_json.specs.Data.{Data}
 use Rattle.clock_json.specs.Reading.{whole_number, numbers, ReadsValue, ReadsAll}
-use Rattle.clock_json.specs.inside.Reading.{HasMembers}
-use Rattle.clock_json.specs.Compact.{compact_bid}
-use Rattle.clock_json.specs.declared.compact.CompactBid.{CompactBid}
+use Rattle.clock_json.specs.Compact.{IsCompactValue, tokens_from}
 use Rattle.clock_json.proofs.LexLaws.{at_byte, begun}
-use Rattle.clock_json.proofs.Steps.{number_reads, items_start, items_next, items_end, members_start, members_next}
-use Rattle.clock_json.proofs.Steps.{members_end, all_push_next}
+use Rattle.clock_json.proofs.Steps.{number_reads, items_start, items_next, items_end, all_push_next}
 
 -- what is given where a test is passed
 passed : {A : Type 0} (P : A → Type 0) (is : Bool) (x : A) → (is ≡ true → P x) → IfSome (then_some is x) P
@@ -57,44 +53,14 @@ module _ (bytes : List ℕ) (at : ℕ) where
       ∙ ap₂ (λ front rest. front ++ rest) (ap (take part) (known_then 8 bytes first at is))
       (drop-drop part at bytes ∙ known_then 4 bytes second (at + part) more)
 
-  -- bytes that begin a bid, with the first key
-  pub price_stands : drop at bytes ≡ take 5 (codes "{\"price\"" ++ drop (at + 8) bytes)
-      ++ (codes "ce\":" ++ drop (at + 5 + 4) bytes) → lex between (drop at bytes)
-      ≡ token begin_object ∷ token (string (codes "price")) ∷ colon ∷ lex between (drop (at + 9) bytes)
-  unfolding lex content
-  price_stands is = ap (lex between) is ∙ ap (λ n. token begin_object ∷ token (string (codes "price")) ∷ colon
-      ∷ lex between (drop n bytes)) (let same : at + 5 + 4 ≡ at + 9 = omega arith in same)
-
   -- bytes that begin with a known text, which is read as these lexemes whatever follows it
-  known_first : (text : List ℕ) (found behind : ℕ) (read : List Lexeme → List Lexeme)
+  pub known_first : (text : List ℕ) (found behind : ℕ) (read : List Lexeme → List Lexeme)
       → drop at bytes ≡ text ++ drop found bytes → found ≡ behind → ((rest : List ℕ) → ends_word (text ++ rest) ≡ true)
       → ((rest : List ℕ) → lex between (text ++ rest) ≡ read (lex between rest))
       → (ends_word (drop at bytes) ≡ true) × (lex between (drop at bytes) ≡ read (lex between (drop behind bytes)))
   known_first text found behind read is same ends reads =
       let all : drop at bytes ≡ text ++ drop behind bytes = is ∙ ap (λ n. text ++ drop n bytes) same in
       (ap ends_word all ∙ ends (drop behind bytes), ap (lex between) all ∙ reads (drop behind bytes))
-
-  -- bytes that begin with the second key
-  pub product_stands : drop at bytes ≡ take 7 (codes ",\"produc" ++ drop (at + 8) bytes)
-      ++ (codes "ct\":" ++ drop (at + 7 + 4) bytes) → (ends_word (drop at bytes) ≡ true) × (lex between
-      (drop at bytes) ≡ comma ∷ token (string (codes "product")) ∷ colon ∷ lex between (drop (at + 11) bytes))
-  unfolding lex content
-  product_stands is = known_first (codes ",\"product\":") (at + 7 + 4) (at + 11)
-      (λ r. comma ∷ token (string (codes "product")) ∷ colon ∷ r) is (omega arith) (λ _. refl) (λ _. refl)
-
-  -- bytes that begin with the third key
-  pub quantity_stands : drop at bytes ≡ take 8 (codes ",\"quanti" ++ drop (at + 8) bytes)
-      ++ (codes "ty\":" ++ drop (at + 8 + 4) bytes) → (ends_word (drop at bytes) ≡ true) × (lex between
-      (drop at bytes) ≡ comma ∷ token (string (codes "quantity")) ∷ colon ∷ lex between (drop (at + 12) bytes))
-  unfolding lex content
-  quantity_stands is = known_first (codes ",\"quantity\":") (at + 8 + 4) (at + 12)
-      (λ r. comma ∷ token (string (codes "quantity")) ∷ colon ∷ r) is (omega arith) (λ _. refl) (λ _. refl)
-
--- bytes that begin with the end of a bid
-pub end_stands : (bytes rest : List ℕ) → bytes ≡ 125 ∷ rest
-    → (ends_word bytes ≡ true) × (lex between bytes ≡ token end_object ∷ lex between rest)
-unfolding lex
-end_stands bytes rest is = (ap ends_word is, ap (lex between) is)
 
 -- one digit more of a number of at most sixteen
 pub digit_more : (value count digit : ℕ) → value < 10 ^ count → count < 19 → digit ≤ 9
@@ -106,65 +72,19 @@ digit_more value count digit small few one =
     let most : 10 ^ count ≤ 1000000000000000000 = pow-le-pow_right {n = 10} (omega arith) {i = count} {j = 18} below in
     (omega (arith, next, same, small, one), omega (arith, most, small, one))
 
--- the lexemes of a bid
-abbrev pub lexemes_of : CompactBid → List Lexeme → List Lexeme
-lexemes_of bid rest =
-    token begin_object ∷ token (string (codes "price")) ∷ colon ∷ token (number (decimal bid.price))
-    ∷ comma ∷ token (string (codes "product")) ∷ colon ∷ token (number (decimal bid.product))
-    ∷ comma ∷ token (string (codes "quantity")) ∷ colon ∷ token (number (decimal bid.quantity))
-    ∷ token end_object ∷ rest
-
--- the tokens of a bid
-abbrev pub tokens_of : CompactBid → List Token → List Token
-tokens_of bid rest = begin_object ∷ key (codes "price") ∷ number (decimal bid.price) ∷ key (codes "product")
-    ∷ number (decimal bid.product) ∷ key (codes "quantity") ∷ number (decimal bid.quantity) ∷ end_object ∷ rest
-
--- where a value may begin, the lexemes are the tokens
-pub punctuated : (p : Place) (bid : CompactBid) (ls rest : List Lexeme) → may_begin p ≡ true → ls ≡ lexemes_of bid rest
-    → punctuate p ls ≡ tokens_of bid (punctuate lexer.after_value rest)
-unfolding punctuate
-punctuated p bid ls rest h is = begun p ls _ h (ap (punctuate lexer.fresh) is) (ap (punctuate lexer.after_comma) is)
-
--- the tokens are read as the bid
-pub bid_reads : (bid : CompactBid) (old new : List Token) → (bid.price < 2 ^ 64) × (bid.product < 2 ^ 64)
-    × (bid.quantity < 2 ^ 64) → old ≡ tokens_of bid new → ReadsValue 1 old (compact_bid bid) new
-bid_reads bid old new small is =
-    let last = end_object ∷ new in
-    let third = number (decimal bid.quantity) ∷ last in
-    let third_key = key (codes "quantity") ∷ third in
-    let second = number (decimal bid.product) ∷ third_key in
-    let second_key = key (codes "product") ∷ second in
-    let first = number (decimal bid.price) ∷ second_key in
-    let start = key (codes "price") ∷ first in
-    let found_1 = put (codes "price") (whole_number bid.price) no_members in
-    let found_2 = put (codes "product") (whole_number bid.product) found_1 in
-    let found_3 = put (codes "quantity") (whole_number bid.quantity) found_2 in
-    let has_1 : HasMembers 0 start found_1 second_key =
-    members_next 0 start start first second_key no_members (codes "price") (whole_number bid.price)
-    (members_start 0 start) refl (number_reads bid.price first second_key small.0 refl) in
-    let has_2 : HasMembers 0 start found_2 third_key =
-    members_next 0 start second_key second third_key found_1 (codes "product") (whole_number bid.product) has_1 refl
-    (number_reads bid.product second third_key small.1 refl) in
-    let has_3 : HasMembers 0 start found_3 last =
-    members_next 0 start third_key third last found_2 (codes "quantity") (whole_number bid.quantity) has_2 refl
-    (number_reads bid.quantity third last small.2 refl) in
-    members_end 0 old start last new found_3 is has_3 refl
-
 -- a list that grew grows by one
 pub grown : {A : Type 0} (old row before after : List A) (x : A) → before ≡ old ++ row → after ≡ before ++ x ∷ []
     → after ≡ old ++ (row ++ x ∷ [])
 grown old row before after x is more = more ∙ ap (λ xs. xs ++ x ∷ []) is ∙ append_assoc old row (x ∷ [])
 
--- one bid more, where a value may begin
-pub one_bid_more : {A : Type 0} (data_of : A → Data) (old : List Token) (p : Place) (ls rest : List Lexeme)
-    (bid : CompactBid) (xs : List A) (x : A) → ReadsAll 1 old (map data_of xs) (punctuate p ls) → may_begin p ≡ true
-    → (bid.price < 2 ^ 64) × (bid.product < 2 ^ 64) × (bid.quantity < 2 ^ 64) → ls ≡ lexemes_of bid rest
-    → data_of x ≡ compact_bid bid → ReadsAll 1 old (map data_of (xs ++ x ∷ [])) (punctuate lexer.after_value rest)
-one_bid_more data_of old p ls rest bid xs x all may small is same =
-    let new = punctuate lexer.after_value rest in
-    all_push_next 1 data_of old (punctuate p ls) new xs x all
-    (subst (λ d. ReadsValue 1 (punctuate p ls) d new) (sym same)
-    (bid_reads bid _ new small (punctuated p bid ls rest may is)))
+-- one part more, where a value may begin
+pub one_part_more : {A : Type 0} (data_of : A → Data) (old : List Token) (bytes : List ℕ) (place : Place)
+    (start end : ℕ) (xs : List A) (x : A) → ReadsAll 1 old (map data_of xs) (tokens_from place start bytes)
+    → may_begin place ≡ true → IsCompactValue bytes start (data_of x) end
+    → ReadsAll 1 old (map data_of (xs ++ x ∷ [])) (tokens_from lexer.after_value end bytes)
+one_part_more data_of old bytes place start end xs x all may reads =
+    all_push_next 1 data_of old (tokens_from place start bytes) (tokens_from lexer.after_value end bytes) xs x all
+    (reads place may)
 
 -- a number and the comma after it
 pub number_and_comma : (p : Place) (ls rest : List Lexeme) (s : List ℕ) → may_begin p ≡ true

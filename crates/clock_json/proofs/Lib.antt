@@ -1,8 +1,8 @@
-mod LexLaws
+pub mod LexLaws
 mod Turns
 mod FieldLaws
 pub mod Steps
-mod CompactLaws
+pub mod CompactLaws
 mod DigitLaws
 mod PlainLaws
 pub mod JsonLaws

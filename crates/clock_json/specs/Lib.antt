@@ -1,4 +1,5 @@
 pub mod Compact
+pub mod Digits
 pub mod Left
 pub mod Marks
 pub mod Members

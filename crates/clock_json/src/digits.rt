@@ -4,7 +4,7 @@ ghost use Rattle.std.specs.Prelude.{◌≡◌, ◌+◌, ◌≤◌, ◌<◌, ◌^
 ghost use Rattle.std.specs.Prelude.{IfSome, decimal};
 ghost use Rattle.std.specs.Str.Parse.{AllDigits, digits_value};
 ghost use Rattle.json.specs.{Token.{number}, Lex.{lex, between, token, comma}};
-ghost use Rattle.clock_json.specs.inside.Digits.{AreDigits, IsNumberUpTo};
+ghost use Rattle.clock_json.specs.{Digits.{IsNumberUpTo}, inside.Digits.{AreDigits}};
 
 use crate::compact::has_room;
 use std::simd::prelude::*;
@@ -65,10 +65,11 @@ fn digit_at(bytes: &[u8], at: usize) -> Option<u64>
     Some(digit)
 }
 
-/// Reads a number of at most nineteen digits, without leading zeros, that ends before an index.
-/// Returns the number, and the index after it.
+/// Reads a number without leading zeros at index `start`, which ends before index `stop` or there.
+/// Returns the number, and the index after it. Requires that `stop` is within `bytes`, and at most
+/// nineteen bytes after `start`.
 #[inline(always)]
-pub(crate) fn digits_up_to(bytes: &[u8], start: usize, stop: usize) -> Option<(u64, usize)>
+pub fn digits_up_to(bytes: &[u8], start: usize, stop: usize) -> Option<(u64, usize)>
     requires order { start ≤ stop }
     requires few { stop ≤ start + 19 }
     requires within { stop ≤ length bytes.now }
@@ -89,9 +90,10 @@ pub(crate) fn digits_up_to(bytes: &[u8], start: usize, stop: usize) -> Option<(u
     Some((value, end))
 }
 
-/// Reads a number of one digit that a mark follows.
+/// Reads a number of one digit at index `at`, if `mark` follows it. Requires that `bytes` has two
+/// bytes there.
 #[inline(always)]
-pub(crate) fn digit_before(bytes: &[u8], at: usize, mark: u8) -> Option<u64>
+pub fn digit_before(bytes: &[u8], at: usize, mark: u8) -> Option<u64>
     requires { at + 2 ≤ length bytes.now }
     ensures number { IfSome result (λ n. IsNumberUpTo bytes.now at (at + 1) (n, at + 1)) }
     ensures mark { IfSome result (λ _. get_or bytes.now (at + 1) 0 ≡ mark) }
@@ -116,10 +118,11 @@ fn long_digits_at(bytes: &[u8], start: usize, behind: usize) -> Option<(u64, usi
     digits_up_to(bytes, start, start + 16)
 }
 
-/// Reads a number of at most sixteen digits that `behind` bytes follow. It is fast if the count of
-/// digits varies, and is at most eight.
+/// Reads a number of at most sixteen digits at index `start`, if at least `behind` bytes follow it.
+/// Returns the number, and the index after it. It is fast if the count of digits varies, and is at
+/// most eight. Requires that `bytes` has sixteen bytes there, and `behind` after the first eight.
 #[inline(always)]
-pub(crate) fn uneven_digits_at(bytes: &[u8], start: usize, behind: usize) -> Option<(u64, usize)>
+pub fn uneven_digits_at(bytes: &[u8], start: usize, behind: usize) -> Option<(u64, usize)>
     requires most { start + 16 ≤ length bytes.now }
     requires behind { start + 8 + behind ≤ length bytes.now }
     ensures number { IfSome result (IsNumberUpTo bytes.now start (start + 16)) }

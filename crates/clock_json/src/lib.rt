@@ -14,7 +14,8 @@ mod scan;
 pub mod tree;
 mod words;
 
-pub use compact::{BidPart, CompactBid, CompactTriple};
+pub use compact::{CompactPart, CompactTriple, has_both, has_room};
+pub use digits::{digit_before, digits_up_to, uneven_digits_at};
 pub use parts::{PartReader, ScannedMembers, scanned_parts, scanned_text};
 pub use room::{push, with_room};
 pub use rows::{ShortRows, short_rows};

@@ -10,7 +10,7 @@ ghost use Rattle.clock_json.specs.Marks.{opening_mark, closing_mark};
 ghost use Rattle.clock_json.specs.Reading.{whole_number, numbers, rows, ReadsValue, ReadsAll};
 ghost use Rattle.clock_json.specs.declared.scan.ScanStop.TheVariants as stops;
 
-use crate::compact::{BidPart, CompactTriple, compact_bid_at, compact_triple_at, has_room};
+use crate::compact::{CompactPart, CompactTriple, compact_triple_at, has_room};
 use crate::digits::number_and_comma;
 use crate::room::push;
 use crate::rows::{ShortRows, short_row};
@@ -68,7 +68,7 @@ impl Expected {
 /// A text that is being read. In contracts, it is the list of the tokens not read yet.
 ///
 /// A call that returns an error may leave it at any token. `closes` or `null` that returns false,
-/// and `compact_bid` or `compact_triple` that returns `None`, leave it unchanged.
+/// and `compact_triple` that returns `None`, leave it unchanged.
 #[derive(Drop)]
 pub struct Scan<'a> {
     text: &'a str,
@@ -168,10 +168,13 @@ impl<'a> Scan<'a> {
         Ok(n)
     }
 
-    /// Reads the next bids that are written without white space, with their keys in order of their
-    /// bytes. Appends the part that `R` makes of each to `list`. May stop with `NoMemory`.
+    /// Reads the next parts of a list, up to the first that `R` does not read, and appends them to
+    /// `list`. May stop with `NoMemory`.
     #[inline(never)]
-    pub fn compact_bids<R: BidPart>(&mut self, list: Vec<R::Part>) -> Result<Vec<R::Part>, ScanStop>
+    pub fn compact_parts<R: CompactPart>(
+        &mut self,
+        list: Vec<R::Part>,
+    ) -> Result<Vec<R::Part>, ScanStop>
         ensures { IfOk result (λ all. (row : List R.Part) × (all.items ≡ list.items ++ row)
             × ReadsAll 1 self.old (map R.shown row) self.new) }
     {
@@ -182,8 +185,8 @@ impl<'a> Scan<'a> {
         if !expected.may_begin() {
             return Ok(all);
         }
-        'bids: while let Some((bid, end)) = compact_bid_at(bytes, at) {
-            push(&mut all, R::part_of(bid))?;
+        'parts: while let Some((part, end)) = R::compact_at(bytes, at) {
+            push(&mut all, part)?;
             if bytes[end] != b',' {
                 (self.expected, self.at) = after_value(bytes, end);
                 return Ok(all);

@@ -11,7 +11,7 @@ use Rattle.clock_bodies.proofs.put_body.bids.Goals as goal
 pub items-init : goal.items-init
 items-init c =
     let start = c.opens.new.self in
-    let here = c.compact_bids.new.self in
+    let here = c.compact_parts.new.self in
     let more = c.in_ok-list.ensures in
     let same = more.1 ∙ ap (λ known. known ++ more.0) c.in_ok-empty.ensures.items in (
       start,
@@ -28,7 +28,7 @@ items-preserved c =
     let same : c.closes.new.self ≡ l.scan = grind arith in
     let next = c.in_ok-next.next in
     let here = c.part.new.scan in
-    let new = c.compact_bids-in-items.new.self in
+    let new = c.compact_parts-in-items.new.self in
     let more = c.in_ok-list-2.ensures in
     let reads : ReadsValue 1 l.scan (bid_data next) here =
     subst (λ ts. ReadsValue 1 ts (bid_data next) here) same c.in_ok-next.ensures.value in
@@ -56,7 +56,7 @@ items-smaller c =
       arith,
       c.in_ok-next.ensures.shorter,
       ap length same,
-      all_shorter 1 here (map bid_data more.0) c.compact_bids-in-items.new.self more.2,
+      all_shorter 1 here (map bid_data more.0) c.compact_parts-in-items.new.self more.2,
     )
 
 pub returns-clause-value : goal.returns-clause-value

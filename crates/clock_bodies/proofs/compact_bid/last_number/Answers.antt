@@ -2,8 +2,9 @@ use Rattle.std.proofs.Common.{◌+◌, ◌∷◌, decimal, ap, ◌∙◌, arith}
 use Rattle.std.proofs.lemmas.Bool.{eqb-true}
 use Rattle.json.specs.Token.{number}
 use Rattle.json.specs.Lex.{token}
-use Rattle.clock_json.proofs.CompactLaws.{given, one_then, end_stands}
-use Rattle.clock_json.proofs.compact.last_number.Goals as goal
+use Rattle.clock_json.proofs.CompactLaws.{given, one_then}
+use Rattle.clock_bodies.proofs.CompactBidLaws.{end_stands}
+use Rattle.clock_bodies.proofs.compact_bid.last_number.Goals as goal
 
 pub returns-in-Some-clause-small : goal.returns-in-Some-clause-small
 returns-in-Some-clause-small c = c.in-Some.ensures.number.small

@@ -1,20 +1,20 @@
--- Each turn of the loop reads one more bid.
+-- Each turn of the loop reads one more part.
 use Rattle.std.proofs.Common.{◌≡◌, ◌+◌, ◌∷◌, ◌++◌, [], drop, map, refl, sym, subst, ◌∙◌, arith}
 use Rattle.std.proofs.lemmas.List.{append-nil}
 use Rattle.json.specs.Lex.{lex, between}
 use Rattle.clock_json.specs.Left.{left, place_of}
 use Rattle.clock_json.specs.Reading.{ReadsAll}
 use Rattle.clock_json.proofs.LexLaws.{comma_at, comma_follows}
-use Rattle.clock_json.proofs.CompactLaws.{grown, one_bid_more}
-use Rattle.clock_json.proofs.scan.Scan.compact_bids.Goals as goal
+use Rattle.clock_json.proofs.CompactLaws.{grown, one_part_more}
+use Rattle.clock_json.proofs.scan.Scan.compact_parts.Goals as goal
 
 pub returns-then-not-may_begin : goal.returns-then-not-may_begin
 unfolding ReadsAll
 returns-then-not-may_begin g c = ([], sym (append-nil c.args.list.items), refl)
 
-pub bids-init : goal.bids-init
+pub parts-init : goal.parts-init
 unfolding ReadsAll
-bids-init g c = (
+parts-init g c = (
   refl,
   [],
   sym (append-nil c.args.list.items),
@@ -23,26 +23,23 @@ bids-init g c = (
 )
 
 pub invariant_of-self : goal.invariant_of-self
-invariant_of-self g c = subst (λ s. s.text.now ≡ s.bytes.now) (sym c.bids.invariant.0) c.self.invariant
+invariant_of-self g c = subst (λ s. s.text.now ≡ s.bytes.now) (sym c.parts.invariant.0) c.self.invariant
 
 pub invariant_of-self-then-bytes-end-ne44 : goal.invariant_of-self-then-bytes-end-ne44
 invariant_of-self-then-bytes-end-ne44 g c =
-    subst (λ s. s.text.now ≡ s.bytes.now) (sym c.bids.invariant.0) c.self.invariant
+    subst (λ s. s.text.now ≡ s.bytes.now) (sym c.parts.invariant.0) c.self.invariant
 
 pub invariant_of-self-2 : goal.invariant_of-self-2
-invariant_of-self-2 g c = subst (λ s. s.text.now ≡ s.bytes.now) (sym c.bids.invariant.0) c.self.invariant
+invariant_of-self-2 g c = subst (λ s. s.text.now ≡ s.bytes.now) (sym c.parts.invariant.0) c.self.invariant
 
 pub returns-then-bytes-end-ne44 : goal.returns-then-bytes-end-ne44
 returns-then-bytes-end-ne44 g c =
-    let l = c.bids in
-    let bytes = c.self.inside.bytes.now in
-    let shown = g.R.BidPart.shown in
+    let l = c.parts in
+    let shown = g.R.CompactPart.shown in
     let row = l.invariant.1 in
-    let part = c.part_of.result in
-    let found = c.in-Some.ensures in
-    let all = one_bid_more shown c.args.self.now (place_of l.expected) (lex between (drop l.at bytes))
-    (lex between (drop c.in-Some.end bytes)) c.in-Some.bid row part l.invariant.3 l.invariant.4 found.small found.value
-    c.part_of.ensures in (
+    let part = c.in-Some.part in
+    let all = one_part_more shown c.args.self.now c.self.inside.bytes.now (place_of l.expected) l.at c.in-Some.end row
+    part l.invariant.3 l.invariant.4 c.in-Some.ensures.value in (
       row ++ part ∷ [],
       grown c.args.list.items row l.all.items c.push.new.list.items part l.invariant.2 c.in_ok-push.ensures.items,
       subst (λ s. ReadsAll 1 c.args.self.now (map shown (row ++ part ∷ []))
@@ -50,34 +47,34 @@ returns-then-bytes-end-ne44 g c =
           (subst (λ ts. ReadsAll 1 c.args.self.now (map shown (row ++ part ∷ [])) ts) (sym c.after_value.ensures) all),
     )
 
-pub bids-smaller : goal.bids-smaller
-bids-smaller g c = omega (arith, c.in-Some.ensures.order.0, c.in-Some.ensures.order.1)
+pub parts-smaller : goal.parts-smaller
+parts-smaller g c = omega (arith, c.in-Some.ensures.order.0, c.in-Some.ensures.order.1)
 
-pub bids-preserved : goal.bids-preserved
-bids-preserved g c =
-    let l = c.bids in
+pub parts-preserved : goal.parts-preserved
+parts-preserved g c =
+    let l = c.parts in
     let bytes = c.self.inside.bytes.now in
     let end = c.in-Some.end in
-    let shown = g.R.BidPart.shown in
+    let shown = g.R.CompactPart.shown in
     let row = l.invariant.1 in
-    let part = c.part_of.result in
+    let part = c.in-Some.part in
     let found = c.in-Some.ensures in
-    let behind = lex between (drop end bytes) in
-    let all = one_bid_more shown c.args.self.now (place_of l.expected) (lex between (drop l.at bytes)) behind
-    c.in-Some.bid row part l.invariant.3 l.invariant.4 found.small found.value c.part_of.ensures in (
+    let all = one_part_more shown c.args.self.now bytes (place_of l.expected) l.at end row part l.invariant.3
+    l.invariant.4 found.value in (
       l.invariant.0,
       row ++ part ∷ [],
       grown c.args.list.items row l.all.items c.push.new.list.items part l.invariant.2 c.in_ok-push.ensures.items,
-      subst (λ ts. ReadsAll 1 c.args.self.now (map shown (row ++ part ∷ [])) ts) (comma_follows behind
-          (lex between (drop (end + 1) bytes)) (comma_at bytes end found.order.1 c.if-bytes-end-ne44.false)) all,
+      subst (λ ts. ReadsAll 1 c.args.self.now (map shown (row ++ part ∷ [])) ts)
+          (comma_follows (lex between (drop end bytes)) (lex between (drop (end + 1) bytes))
+          (comma_at bytes end found.order.1 c.if-bytes-end-ne44.false)) all,
       refl,
     )
 
 pub returns : goal.returns
 returns g c =
-    let l = c.bids in (
+    let l = c.parts in (
       l.invariant.1,
       l.invariant.2,
-      subst (λ s. ReadsAll 1 c.args.self.now (map g.R.BidPart.shown l.invariant.1)
+      subst (λ s. ReadsAll 1 c.args.self.now (map g.R.CompactPart.shown l.invariant.1)
           (left l.expected (drop l.at s.bytes.now))) (sym l.invariant.0) l.invariant.3,
     )
