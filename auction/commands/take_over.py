@@ -9,9 +9,9 @@ Then it compares the copy with all that was published. --saved FOLDER has public
 else has saved, such as a bidder or another web server: these must agree too. Nobody may answer at
 the bidders' address of conductor.json, nor at any --at HOST:PORT.
 
-If all is well, it removes FOLDER/fence.json, so server, nginx, receipts, conductor, and desk can start
-here, and continue with the same chain, key, announcements, and timetable. Otherwise it says why
-not, and changes nothing.
+If all is well, it removes FOLDER/fence.json, so server, nginx, receipts, conductor, and desk can
+start here, and continue with the same chain, key, announcements, and timetable. Otherwise it says
+why not, and changes nothing.
 """
 import argparse
 import pathlib
