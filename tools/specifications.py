@@ -287,8 +287,8 @@ INNER = "inner-invariant"  # an invariant that only calls of its crate rely on
 
 
 def signature_at(text: str, start: int) -> str:
-    """The first lines of an item, in one line."""
-    end = re.compile(r"\n +(?:requires|ensures|where)\b|\{|;").search(text, start)
+    """The first lines of an item, in one line. The `;` of an array's type is a part of them."""
+    end = re.compile(r"\n +(?:requires|ensures|where)\b|\{|;(?![^\n\[]*\])").search(text, start)
     return " ".join(text[start : end.start() if end else None].split())
 
 

@@ -11,7 +11,7 @@ from tools.surfaces import lines_of, read_surface, surface_of, weaker_in
 
 pytestmark = pytest.mark.early
 
-LIB = "pub use counts::{Count, add};\nmod counts;\n"
+LIB = "pub use counts::{Count, add, is_word};\nmod counts;\n"
 COUNTS = """ghost use Rattle.clock_one.specs.Sums.{IsSmall, total};
 
 /// A count.
@@ -32,6 +32,11 @@ pub fn add(count: u64) -> u64
     ensures more { count < result }
 {
     count + 1
+}
+
+/// Whether a word has this many letters.
+pub fn is_word(word: &[u8; 8], count: u64) -> bool {
+    count == 8
 }
 """
 SUMS = """-- Sums.
@@ -93,6 +98,7 @@ WEAKER = {
     "an invariant is gone": (SOURCE, "    ghost invariant = { λ c. IsSmall c.value };\n", ""),
     "another view": (SOURCE, "ghost Value = { ℕ }", "ghost Value = { Unit }"),
     "another signature": (SOURCE, "(count: u64) -> u64", "(count: u32) -> u64"),
+    "another signature after an array": (SOURCE, "8], count: u64", "8], count: u32"),
     "a definition has changed": (SPECS, "count < 9", "count < 10"),
 }
 
@@ -104,7 +110,7 @@ def test_a_weaker_promise_fails_until_the_decisions_name_it(
     change(checkout, name, old, new)
     assert ran(checkout).returncode == 1
     assert ran(checkout, "--write").returncode == 1
-    named = "# Decisions\n\n`add`, `Count`, `IsSmall`, `Model for Count`\n"
+    named = "# Decisions\n\n`add`, `is_word`, `Count`, `IsSmall`, `Model for Count`\n"
     (checkout / "docs/DECISIONS.md").write_text(named)
     assert ran(checkout).returncode == 1
     assert ran(checkout, "--write").returncode == 0
