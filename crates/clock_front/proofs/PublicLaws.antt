@@ -37,7 +37,7 @@ public_outcome setup sheets asked.status =
 public_outcome setup sheets asked.products = done (products_value setup)
 public_outcome setup sheets (asked.round_results segment) =
     page_or_no_round (option_map (round_results_value setup) (option_and_then (λ n. round_at n sheets)
-        (plain_number segment)))
+    (plain_number segment)))
 public_outcome setup sheets _ = refused (bare Token)
 
 abbrev sheet_of : ClosedRound → RoundSheet

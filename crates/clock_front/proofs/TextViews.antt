@@ -131,7 +131,7 @@ module _ (setup : PublicSetup) (row : Bidder) (standing_now : PublicState) (held
   same_round_results None = refl
   same_round_results (Some n) = ap (λ found.
       page_or_no_round (option_map (λ (one_seen : RoundSheet × Slip). round_results_value setup one_seen.0) found))
-          (alike n)
+      (alike n)
 
   pub same_rounds : (asked : Ask) → known_outcome setup row
       (record { public_state = standing_now; holding = held; in_force = in_force; rounds = one }) asked ≡ known_outcome

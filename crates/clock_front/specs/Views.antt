@@ -90,7 +90,7 @@ bidder_outcome setup row view asked.status =
 bidder_outcome setup row view asked.products = done (products_value setup)
 bidder_outcome setup row view (asked.round_results segment) =
     page_or_no_round (option_map (λ seen. round_results_value setup seen.0)
-        (round_of_segment view segment))
+    (round_of_segment view segment))
 bidder_outcome setup row view asked.account = done (account_value setup.products row.name
     (seen_state setup view).round (seen_holding setup row view) (seen_state setup view).ended)
 bidder_outcome setup row view asked.bids =
@@ -100,7 +100,7 @@ bidder_outcome setup row view (asked.put (Ok body)) = put_outcome body
     (put_fault setup (seen_state setup view) (seen_holding setup row view) body.round body.bids)
 bidder_outcome setup row view (asked.bidder_results segment) =
     page_or_no_round (option_map (λ seen. bidder_results_value seen.1)
-        (round_of_segment view segment))
+    (round_of_segment view segment))
 bidder_outcome setup row view (asked.close body) = refused (bare code.Role)
 bidder_outcome setup row view asked.results = refused (bare code.Role)
 

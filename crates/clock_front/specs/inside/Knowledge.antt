@@ -52,7 +52,7 @@ known_outcome setup row known asked.status =
 known_outcome setup row known asked.products = done (products_value setup)
 known_outcome setup row known (asked.round_results segment) =
     page_or_no_round (option_map (λ seen. round_results_value setup seen.0)
-        (known_round known segment))
+    (known_round known segment))
 known_outcome setup row known asked.account = done (account_value setup.products row.name
     known.public_state.round known.holding known.public_state.ended)
 known_outcome setup row known asked.bids = done (bids_value known.public_state.round known.in_force)

@@ -22,7 +22,7 @@ returns g c =
     let found = c.in-Some-slip.ensures.found ∙ ap (λ (n : Option ℕ). option_map (slip_of c.args.bidder)
     (option_and_then (λ n. round_at n house.closed) n)) c.in-Some.ensures in
     page_in (asked.bidder_results c.args.segment.now) c.page_reply.result (done (bidder_results_value one))
-        (page_or_no_round (option_map
+    (page_or_no_round (option_map
     (λ closed. bidder_results_value (slip_of c.args.bidder closed)) (round_in house c.args.segment.now)))
     (found_page bidder_results_value (slip_of c.args.bidder) (round_in house c.args.segment.now) one found)
     (c.page_reply.ensures (bidder_results_value one) c.headed_bidder_results.ensures)
