@@ -25,6 +25,7 @@ from auction.standby.fencing import UNITS
 from auction.standby.taking import Means, NotTaken, take_over
 
 FAULTS = (NotTaken, SettingsFault, JournalFault, OSError, ValueError)
+START = f"systemctl enable --now {' '.join(reversed(UNITS))}"
 
 
 def arguments(parser: argparse.ArgumentParser) -> None:
@@ -58,8 +59,7 @@ def run(given: argparse.Namespace) -> int:
     except FAULTS as fault:
         sys.exit(f"auction take-over: not taken over: {fault}")
     print(f"This machine has taken over. Of the first one: {how}.")
-    start = f"systemctl enable --now {' '.join(reversed(UNITS))}"
-    print(f"Move the auction's address here, and start: {start}")
+    print(f"Move the auction's address here, and start: {START}")
     return 0
 
 

@@ -6,6 +6,7 @@ from collections.abc import Iterator
 
 import pytest
 
+from auction.commands import take_over
 from tests.docs.texts import text_of
 from tests.lib.documents import typed_lines
 from tests.lib.paths import TOP
@@ -85,6 +86,32 @@ def test_definitions_that_glossary_and_rules_name_exist() -> None:
     named = {name for cell in cells for name in re.findall(r"`(\w+)`", cell)}
     assert len(named) > 50
     assert not named - known
+
+
+def test_take_over_starts_each_unit_that_the_operators_guide_starts() -> None:
+    typed = [line for line, _ in typed_lines(text_of("operators.md")) if "enable --now" in line]
+    assert len(typed) == 1
+    assert set(take_over.START.split()) == set(typed[0].split())
+
+
+def test_no_command_of_the_auditors_stores_an_error_page() -> None:
+    typed = [line for line, _ in typed_lines(text_of("auditors.md"))]
+    stored = [line for line in typed if line.startswith("curl ")]
+    assert len(stored) == 5
+    assert [line for line in stored if " -f " not in line] == []
+
+
+def test_limits_of_the_bidders_guide_fit_its_example() -> None:
+    found = re.findall(r'`(\{"A":\[[^`]*\})`', text_of("bidders.md"))
+    assert len(found) == 1
+    limits = json.loads(found[0])
+    setup = json.loads((TOP / "examples/two_products.json").read_text())
+    units = sum(
+        product["units"] * sum(limit >= product["opening"] for limit in limits[product["name"]])
+        for product in setup["products"]
+    )
+    bidder = next(one for one in setup["bidders"] if one["name"] == "X")
+    assert 0 < units <= bidder["eligibility"]
 
 
 @pytest.mark.parametrize(
